@@ -1,0 +1,2 @@
+mod Eaten
+pub mod Accepted
