@@ -1,0 +1,4 @@
+mod Bounds
+mod Paths
+mod FoldedLaws
+mod StraightLaws

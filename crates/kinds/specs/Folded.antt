@@ -1,0 +1,37 @@
+-- The folded kind: one switch for each line, whose ports below n lead to nodes and whose port n + j leads to spine j;
+-- a spine has line w at port w.
+use Prim.Native.Nat.{ℕ, _+_, _-_, _*_, _/_, _%_}
+use mathlib.Core.Bool.{cond, _&&_}
+use lib.Dec.{ltb}
+use lib.IntN.{pos, negsuc}
+use Rattle.std.specs.declared.option.Option.{Option}
+use Rattle.std.specs.declared.option.Option.the-variants.{Some, None}
+use Rattle.crossbar.specs.declared.wires.Switch.{Switch}
+use Rattle.crossbar.specs.declared.wires.Switch.the-variants.{Line, Send, Spine, Receive}
+use Rattle.crossbar.specs.declared.wires.Wire.{Wire}
+use Rattle.crossbar.specs.declared.wires.Wire.the-variants.{FromNode, FromExit}
+use Rattle.crossbar.specs.declared.wires.FarEnd.{FarEnd}
+use Rattle.crossbar.specs.declared.wires.FarEnd.the-variants.{Node, Entry}
+use Rattle.ports.specs.Bytes.{named-exit, turn}
+use Rattle.cabinet.specs.Wiring.{Meaning}
+use Rattle.ports.specs.Nodes.{place}
+use Rattle.kinds.specs.Ends.{into, only-if}
+
+-- the far end of the wire out of exit x of a switch
+abbrev pub folded-exit : ℕ → ℕ → Switch → ℕ → Option FarEnd
+folded-exit m n (Line w) x = cond (ltb w m && ltb x n) (Some (Node (w * n + x))) (only-if (ltb w m && ltb x (n + n)) (Entry (Spine (x - n)) w))
+folded-exit m n (Spine j) x = only-if (ltb j n && ltb x m) (Entry (Line x) (n + j))
+folded-exit m n (Send w) x = None
+folded-exit m n (Receive w) x = None
+
+abbrev pub folded-end : ℕ → ℕ → Wire → Option FarEnd
+folded-end m n (FromNode v) = into Line (place m n v)
+folded-end m n (FromExit s (pos x)) = folded-exit m n s x
+folded-end m n (FromExit s (negsuc x)) = None
+
+-- from the sender's port to spine j, from the sender's line to the receiver's, from spine j to the receiver's port
+abbrev pub folded-header : ℕ → ℕ → ℕ → ℕ → ℕ × ℕ × ℕ
+folded-header n s r j = (turn (s % n) (n + j), turn (s / n) (r / n), turn (n + j) (r % n))
+
+abbrev pub folded : ℕ → ℕ → Meaning
+folded m n = record { far-end = folded-end m n; exit = named-exit; header = folded-header n }

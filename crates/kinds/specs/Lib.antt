@@ -1,0 +1,4 @@
+pub mod Ends
+pub mod Folded
+pub mod Straight
+pub mod Worked

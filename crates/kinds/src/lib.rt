@@ -1,0 +1,8 @@
+// The cabinet kinds, each proved to keep both laws of `Cabinet`.
+//
+//   folded     the kind whose line switches send and receive
+//   straight   the kind with separate send and receive switches
+//   worked     worked examples of route bytes, headers and walks, as one theorem
+pub mod folded;
+pub mod straight;
+pub mod worked;
