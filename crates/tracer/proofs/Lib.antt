@@ -1,0 +1,2 @@
+mod Deliveries
+mod Steps
