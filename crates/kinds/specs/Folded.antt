@@ -12,10 +12,11 @@ use Rattle.crossbar.specs.declared.wires.Wire.{Wire}
 use Rattle.crossbar.specs.declared.wires.Wire.the-variants.{FromNode, FromExit}
 use Rattle.crossbar.specs.declared.wires.FarEnd.{FarEnd}
 use Rattle.crossbar.specs.declared.wires.FarEnd.the-variants.{Node, Entry}
-use Rattle.ports.specs.Bytes.{named-exit, turn}
+use Rattle.ports.specs.Bytes.{named-exit}
 use Rattle.cabinet.specs.Wiring.{Meaning}
 use Rattle.ports.specs.Nodes.{place}
 use Rattle.kinds.specs.Ends.{into, only-if}
+use Rattle.kinds.specs.Headers.{header-by}
 
 -- the far end of the wire out of exit x of a switch
 abbrev pub folded-exit : ℕ → ℕ → Switch → ℕ → Option FarEnd
@@ -29,9 +30,5 @@ folded-end m n (FromNode v) = into Line (place m n v)
 folded-end m n (FromExit s (pos x)) = folded-exit m n s x
 folded-end m n (FromExit s (negsuc x)) = None
 
--- from the sender's port to spine j, from the sender's line to the receiver's, from spine j to the receiver's port
-abbrev pub folded-header : ℕ → ℕ → ℕ → ℕ → ℕ × ℕ × ℕ
-folded-header n s r j = (turn (s % n) (n + j), turn (s / n) (r / n), turn (n + j) (r % n))
-
 abbrev pub folded : ℕ → ℕ → Meaning
-folded m n = record { far-end = folded-end m n; exit = named-exit; header = folded-header n }
+folded m n = record { far-end = folded-end m n; exit = named-exit; header = λ s r j. header-by n s r (n + j) }

@@ -1,4 +1,5 @@
 pub mod Ends
+pub mod Headers
 pub mod Folded
 pub mod Straight
 pub mod Worked

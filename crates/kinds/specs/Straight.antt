@@ -12,10 +12,11 @@ use Rattle.crossbar.specs.declared.wires.Wire.{Wire}
 use Rattle.crossbar.specs.declared.wires.Wire.the-variants.{FromNode, FromExit}
 use Rattle.crossbar.specs.declared.wires.FarEnd.{FarEnd}
 use Rattle.crossbar.specs.declared.wires.FarEnd.the-variants.{Node, Entry}
-use Rattle.ports.specs.Bytes.{named-exit, turn}
+use Rattle.ports.specs.Bytes.{named-exit}
 use Rattle.cabinet.specs.Wiring.{Meaning}
 use Rattle.ports.specs.Nodes.{place}
 use Rattle.kinds.specs.Ends.{into, only-if}
+use Rattle.kinds.specs.Headers.{header-by}
 
 -- the far end of the wire out of exit x of a switch
 abbrev pub straight-exit : ℕ → ℕ → Switch → ℕ → Option FarEnd
@@ -29,9 +30,5 @@ straight-end m n (FromNode v) = into Send (place m n v)
 straight-end m n (FromExit s (pos x)) = straight-exit m n s x
 straight-end m n (FromExit s (negsuc x)) = None
 
--- from the sender's port to spine j, from the sender's line to the receiver's, from spine j to the receiver's port
-abbrev pub straight-header : ℕ → ℕ → ℕ → ℕ → ℕ × ℕ × ℕ
-straight-header n s r j = (turn (s % n) j, turn (s / n) (r / n), turn j (r % n))
-
 abbrev pub straight : ℕ → ℕ → Meaning
-straight m n = record { far-end = straight-end m n; exit = named-exit; header = straight-header n }
+straight m n = record { far-end = straight-end m n; exit = named-exit; header = λ s r j. header-by n s r j }

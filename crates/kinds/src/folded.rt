@@ -2,13 +2,13 @@
 // a spine has line w at port w.
 ghost use mathlib.Core.Path.{_≡_};
 ghost use Rattle.kinds.specs.Folded.{folded, folded-exit};
+use crate::headers::header_by;
 use cabinet::kind::Cabinet;
 use crossbar::refusal::RouteRefusal;
 use crossbar::wires::FarEnd;
 use crossbar::wires::Switch;
 use crossbar::wires::Wire;
 use ports::bytes::named_exit;
-use ports::bytes::turn_byte;
 use ports::sizes::Sizes;
 
 #[derive(Clone, Copy)]
@@ -73,13 +73,7 @@ pub impl Cabinet for Folded as FoldedCabinet {
         receiver: u16,
         spine: u8,
     ) -> Result<(u8, u8, u8), RouteRefusal> {
-        sizes.check_transfer(sender, receiver, spine)?;
-        let n = u16::from(sizes.n);
-        let up = n + u16::from(spine);
-        Ok((
-            turn_byte(sender % n, up),
-            turn_byte(sender / n, receiver / n),
-            turn_byte(up, receiver % n),
-        ))
+        let port = u16::from(sizes.n) + u16::from(spine);
+        header_by(sizes, sender, receiver, spine, port)
     }
 }

@@ -2,13 +2,13 @@
 // entry w; from spine j, exit w, to receive w, entry j; from receive w, exit p, to node w * n + p.
 ghost use mathlib.Core.Path.{_≡_};
 ghost use Rattle.kinds.specs.Straight.{straight, straight-exit};
+use crate::headers::header_by;
 use cabinet::kind::Cabinet;
 use crossbar::refusal::RouteRefusal;
 use crossbar::wires::FarEnd;
 use crossbar::wires::Switch;
 use crossbar::wires::Wire;
 use ports::bytes::named_exit;
-use ports::bytes::turn_byte;
 use ports::sizes::Sizes;
 
 #[derive(Clone, Copy)]
@@ -74,13 +74,6 @@ pub impl Cabinet for Straight as StraightCabinet {
         receiver: u16,
         spine: u8,
     ) -> Result<(u8, u8, u8), RouteRefusal> {
-        sizes.check_transfer(sender, receiver, spine)?;
-        let n = u16::from(sizes.n);
-        let spine = u16::from(spine);
-        Ok((
-            turn_byte(sender % n, spine),
-            turn_byte(sender / n, receiver / n),
-            turn_byte(spine, receiver % n),
-        ))
+        header_by(sizes, sender, receiver, spine, u16::from(spine))
     }
 }
