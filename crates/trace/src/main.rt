@@ -4,9 +4,6 @@ use replies::reply::reply_to;
 use std::env;
 use std::error::AnyError;
 
-#[cfg(test)]
-mod tests;
-
 fn main(rt: LibcRuntime) -> Result<(), AnyError> {
     let heap = rt.alloc();
     let words: Vec<String> = env::args(&rt)?.skip(1).collect(heap)?;
