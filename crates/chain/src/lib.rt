@@ -8,6 +8,8 @@
 //   exchange    a line loses its colour or gets one; two colours change places along a path
 //   insert      the lines get their colours, which are moved into them at the end
 //   laws        facts on which the others call
+#![tactic(auto)]
+
 ghost use Rattle.std.specs.Prelude.{◌≡◌, ◌^◌, ◌≤◌, IfOk, nat_le};
 ghost use Rattle.chain.specs.Served.{chain_serves};
 ghost use Rattle.chain.specs.Colourings.{Uncoloured, Unused};

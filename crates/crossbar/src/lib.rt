@@ -4,6 +4,8 @@
 //   refusal    why a walk, a header or a route is refused, by number
 //   digits     numbers in two decimal digits, bytes in two hexadecimal digits
 //   text       switches, wires, far ends and refusals as text
+#![tactic(auto)]
+
 pub mod digits;
 pub mod refusal;
 pub mod text;

@@ -9,6 +9,8 @@
 //   range      the colours that are left for a part of the lines
 //   colour     colours for lines by splitting them again and again
 //   arranger   the arranger itself
+#![tactic(auto)]
+
 pub mod arranger;
 mod colour;
 mod halves;

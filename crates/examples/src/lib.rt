@@ -1,4 +1,6 @@
 // The worked examples of the documents, settled against the definitions.
+#![tactic(auto)]
+
 ghost use Rattle.examples.specs.Worked.{Worked};
 
 // All worked examples in one theorem. The function does nothing; its contract carries the theorem.

@@ -2,6 +2,8 @@
 //
 //   bytes     lines to and from bytes
 //   arrange   lines of bytes by any arranger
+#![tactic(auto)]
+
 ghost use Rattle.chain.specs.Served.{chain_serves};
 ghost use Rattle.euler.specs.Halves.{one_bit_to_64};
 ghost use Rattle.exports.specs.Bytes.{Outcome};

@@ -6,6 +6,8 @@
 //   arranger   the interface of an arranger, its meaning and its laws
 //   degrees    the tests that every arranger makes before it colours
 //   theorem    how many colours suffice
+#![tactic(auto)]
+
 pub mod arranger;
 pub mod degrees;
 pub mod line;

@@ -3,6 +3,8 @@
 //   sizes      m and n, the tests that a call makes of its sizes, nodes and spine, and the place of a node
 //   bytes      the route byte, written and read back
 //   tests      route bytes on worked examples, as compiled
+#![tactic(auto)]
+
 pub mod bytes;
 pub mod sizes;
 #[cfg(test)]

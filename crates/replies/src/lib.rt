@@ -2,5 +2,7 @@
 //
 //   arguments   what the words ask for
 //   reply       what is printed in answer to them
+#![tactic(auto)]
+
 mod arguments;
 pub mod reply;

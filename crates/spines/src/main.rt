@@ -1,5 +1,7 @@
 // spines: shares an example permutation out over four spines, with each arranger, and prints which transfers go by
 // which spine.
+#![tactic(auto)]
+
 use chain::Chain;
 use euler::arranger::Euler;
 use lines::arranger::Arranger;

@@ -4,6 +4,8 @@
 //   share      the spines that an arranger gives to transfers
 //   text       which transfers go by which spine, as text
 //   example    a permutation of twelve nodes, which no arranger refuses
+#![tactic(auto)]
+
 pub mod example;
 pub mod share;
 pub mod text;

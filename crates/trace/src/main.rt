@@ -1,5 +1,7 @@
 // trace KIND M N SENDER RECEIVER: the header of a transfer for each spine, and the wires that the packet crosses.
 // It ends with status 1 where there is nothing to trace.
+#![tactic(auto)]
+
 use anyhow::anyhow;
 use replies::reply::reply_to;
 use std::env;

@@ -2,5 +2,7 @@
 //
 //   delivery   a header sent off: its bytes, the wires that it crosses, the node that it reaches
 //   lines      the line of one spine, and the whole trace of a transfer
+#![tactic(auto)]
+
 pub mod delivery;
 pub mod lines;

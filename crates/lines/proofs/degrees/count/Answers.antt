@@ -16,7 +16,7 @@ made l r = record { left = l; right = r }
 pub loop-line-init : goal.loop-line-init
 loop-line-init c =
     let none = sym (none_above (λ v. 0) c.args.c 0 512 (λ u p q. omega arith)) in
-    (c.requires.left-zero, none, c.requires.right_zero, none)
+    (c.requires.left_zero, none, c.requires.right_zero, none)
 
 pub add-lowest-left-requires : goal.add-lowest-left-requires
 add-lowest-left-requires c =
@@ -33,7 +33,7 @@ loop-line-preserved c =
     let ps = ends c.args.lines.now in
     let i = c.loop-line.line-index in
     let inv = c.loop-line.invariant in
-    let l = here Left c.args.lines.now i _ c.loop-line.left c.requires.inside c.loop-line-test.true (c.loop-line.auto.left ∙ c.requires.left-room) in
+    let l = here Left c.args.lines.now i _ c.loop-line.left c.requires.inside c.loop-line-test.true (c.loop-line.auto.left ∙ c.requires.left_room) in
     let r = here Right c.args.lines.now i _ c.loop-line.right c.requires.inside c.loop-line-test.true (c.loop-line.auto.right ∙ c.requires.right-room) in (
       rw c.add-lowest-left.ensures.counts (counts_more Left ps c.loop-line.left i _ l.within l.at l.room inv.0),
       crowded_more Left ps c.loop-line.left i _ l.within l.at l.room c.args.c l.low inv.0 _ _ inv.1 c.add-lowest-left.ensures.lowest,
@@ -48,5 +48,5 @@ returns c =
     record {
       left = rw (← all) inv.0;
       right = rw (← all) inv.2;
-      crowds = ap (λ o. made o c.loop-line.lowest-right) (inv.1 ∙ ap (crowded Left c.args.c) all) ∙ ap (made (crowded Left c.args.c (ends c.args.lines.now))) (inv.3 ∙ ap (crowded Right c.args.c) all);
+      crowds = ap (λ o. made o c.loop-line.lowest_right) (inv.1 ∙ ap (crowded Left c.args.c) all) ∙ ap (made (crowded Left c.args.c (ends c.args.lines.now))) (inv.3 ∙ ap (crowded Right c.args.c) all);
     }

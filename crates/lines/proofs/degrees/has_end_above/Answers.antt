@@ -7,7 +7,7 @@ pub returns-then-is-above : goal.returns-then-is-above
 returns-then-is-above c = sym (above_here c.args.lines.now c.loop-line.line-index _ c.loop-line-test.true (sym c.is-above.ensures ∙ c.if-is-above.true)) ∙ c.loop-line.invariant
 
 pub loop-line-preserved : goal.loop-line-preserved
-loop-line-preserved c = above_more c.args.lines.now c.loop-line.line-index _ c.loop-line-test.true (sym c.is-above.ensures ∙ c.if-is-above.false) ∙ c.loop-line.invariant
+loop-line-preserved c = above_more c.args.lines.now c.loop-line.line-index _ c.loop-line-test.true (sym c.is_above.ensures ∙ c.if-is_above.false) ∙ c.loop-line.invariant
 
 pub returns : goal.returns
 returns c = sym (above_all c.args.lines.now c.loop-line.line-index c.loop-line-test.false) ∙ c.loop-line.invariant

@@ -10,17 +10,17 @@ pub loop-line-init : goal.loop-line-init
 loop-line-init c = (counts_cleared Left (ends c.args.lines.now) c.args.left.now c.requires.left, counts_cleared Right (ends c.args.lines.now) c.args.right.now c.requires.right)
 
 pub bounds-left-line : goal.bounds-left-line
-bounds-left-line c = (here Left c.args.lines.now c.loop-line.line-index _ c.loop-line.left c.requires.inside c.loop-line-test.true (c.loop-line.auto.left ∙ c.requires.left-room)).room
+bounds-left-line c = (here Left c.args.lines.now c.loop-line.line-index _ c.loop-line.left c.requires.inside c.loop-line-test.true (c.loop-line.auto.left ∙ c.requires.left_room)).room
 
 pub bounds-right-line : goal.bounds-right-line
-bounds-right-line c = (here Right c.args.lines.now c.loop-line.line-index _ c.loop-line.right c.requires.inside c.loop-line-test.true (c.loop-line.auto.right ∙ c.requires.right-room)).room
+bounds-right-line c = (here Right c.args.lines.now c.loop-line.line-index _ c.loop-line.right c.requires.inside c.loop-line-test.true (c.loop-line.auto.right ∙ c.requires.right_room)).room
 
 pub loop-line-preserved : goal.loop-line-preserved
 loop-line-preserved c =
     let ps = ends c.args.lines.now in
     let i = c.loop-line.line-index in
-    let l = here Left c.args.lines.now i _ c.loop-line.left c.requires.inside c.loop-line-test.true (c.loop-line.auto.left ∙ c.requires.left-room) in
-    let r = here Right c.args.lines.now i _ c.loop-line.right c.requires.inside c.loop-line-test.true (c.loop-line.auto.right ∙ c.requires.right-room) in (
+    let l = here Left c.args.lines.now i _ c.loop-line.left c.requires.inside c.loop-line-test.true (c.loop-line.auto.left ∙ c.requires.left_room) in
+    let r = here Right c.args.lines.now i _ c.loop-line.right c.requires.inside c.loop-line-test.true (c.loop-line.auto.right ∙ c.requires.right_room) in (
       cleared_more Left ps c.loop-line.left i _ l.within l.at l.room c.loop-line.invariant.0,
       cleared_more Right ps c.loop-line.right i _ r.within r.at r.room c.loop-line.invariant.1,
     )

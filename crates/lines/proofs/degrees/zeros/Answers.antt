@@ -5,5 +5,5 @@ use Rattle.lines.proofs.degrees.zeros.Goals as goal
 
 pub returns : goal.returns
 returns c =
-    let made = c.in-ok-zeros.ensures in
-    (made.len, λ v. ap (λ ns. get_or ns v 0) (made.items-if-clones-equal (λ y e. e)) ∙ all_same c.args.count v 0)
+    let made = c.in_ok-zeros.ensures in
+    (made.len, λ v. ap (λ ns. get_or ns v 0) (made.items_if_clones_equal (λ y e. e)) ∙ all_same c.args.count v 0)

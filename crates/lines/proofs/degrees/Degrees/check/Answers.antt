@@ -4,4 +4,4 @@ use Rattle.lines.proofs.Accepted.{inside_from}
 use Rattle.lines.proofs.degrees.Degrees.check.Goals as goal
 
 pub crowds-crowds-requires : goal.crowds-crowds-requires
-crowds-crowds-requires c = record { few = omega arith; inside = inside_from c.args.lines.now (sym c.has-end-above.ensures ∙ c.if-has-end-above.false) }
+crowds-crowds-requires c = record { few = omega arith; inside = inside_from c.args.lines.now (sym c.has_end_above.ensures ∙ c.if-has_end_above.false) }
