@@ -81,7 +81,7 @@ pub fn share_out<A: Arranger>(
     transfers: &[Transfer],
     n: u8,
 ) -> Result<Vec<Assigned>, ShareError>
-    ensures { Shares result (served n) n transfers.now }
+    ensures { Shares result (A.served n) n transfers.now }
 {
     if !arranger.serves(n) {
         return Err(ShareError::Refused(ArrangeRefusal::NotServed));

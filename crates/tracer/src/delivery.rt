@@ -25,7 +25,7 @@ pub(crate) fn deliver<K: Cabinet>(
     receiver: u16,
     spine: u8,
 ) -> Result<Delivery, RouteError>
-    ensures { Answers delivery_told result (delivered (meaning sizes.m sizes.n) sizes.m sizes.n sender receiver spine) }
+    ensures { Answers delivery_told result (delivered (K.meaning sizes.m sizes.n) sizes.m sizes.n sender receiver spine) }
 {
     let (first, second, third) = kind.header(sizes, sender, receiver, spine)?;
     let bytes = [first, second, third];

@@ -18,7 +18,7 @@ fn wire_text<K: Cabinet>(
     sizes: Sizes,
     wire: Wire,
 ) -> Result<String, AllocError>
-    ensures { IfOk result (λ t. string_bytes t ≡ crossing (meaning sizes.m sizes.n) wire) }
+    ensures { IfOk result (λ t. string_bytes t ≡ crossing (K.meaning sizes.m sizes.n) wire) }
 {
     match kind.far_end(sizes, wire) {
         Some(end) => {
@@ -53,7 +53,7 @@ fn wires_text<K: Cabinet>(
     sizes: Sizes,
     wires: &[Wire],
 ) -> Result<String, AllocError>
-    ensures { IfOk result (λ t. string_bytes t ≡ crossings (meaning sizes.m sizes.n) wires.now) }
+    ensures { IfOk result (λ t. string_bytes t ≡ crossings (K.meaning sizes.m sizes.n) wires.now) }
 {
     let mut text = String::new(heap);
     for wire in wires {
@@ -72,7 +72,7 @@ pub fn spine_line<K: Cabinet>(
     receiver: u16,
     spine: u8,
 ) -> Result<String, RouteError>
-    ensures { Answers string_bytes result (line_due (meaning sizes.m sizes.n) sizes.m sizes.n sender receiver spine) }
+    ensures { Answers string_bytes result (line_due (K.meaning sizes.m sizes.n) sizes.m sizes.n sender receiver spine) }
 {
     let delivery = deliver(heap, kind, sizes, sender, receiver, spine)?;
     let wires = wires_text(heap, kind, sizes, delivery.wires.as_slice())?;
@@ -88,7 +88,7 @@ fn spine_lines<K: Cabinet>(
     sender: u16,
     receiver: u16,
 ) -> Result<String, RouteError>
-    ensures { Answers string_bytes result (lines_due (meaning sizes.m sizes.n) sizes.m sizes.n sender receiver) }
+    ensures { Answers string_bytes result (lines_due (K.meaning sizes.m sizes.n) sizes.m sizes.n sender receiver) }
 {
     sizes.check_transfer(sender, receiver, 0)?;
     let mut text = String::new(heap);
@@ -116,7 +116,7 @@ pub fn trace<K: Cabinet>(
     sender: u16,
     receiver: u16,
 ) -> Result<String, RouteError>
-    ensures { Answers string_bytes result (trace_due (meaning sizes.m sizes.n) sizes.m sizes.n sender receiver) }
+    ensures { Answers string_bytes result (trace_due (K.meaning sizes.m sizes.n) sizes.m sizes.n sender receiver) }
 {
     let mut text = spine_lines(heap, kind, sizes, sender, receiver)?;
     let closing = closing_line(heap, sizes.n, sender, receiver)?;

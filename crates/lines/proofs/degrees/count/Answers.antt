@@ -18,14 +18,14 @@ loop-line-init c =
     let none = sym (none_above (λ v. 0) c.args.c 0 512 (λ u p q. omega arith)) in
     (c.requires.left_zero, none, c.requires.right_zero, none)
 
-pub add-lowest-left-requires : goal.add-lowest-left-requires
-add-lowest-left-requires c =
-    let h = here Left c.args.lines.now c.loop-line.line-index _ c.loop-line.left c.requires.inside c.loop-line-test.true (c.loop-line.auto.left ∙ c.requires.left-room) in
+pub add-lowest_left-requires : goal.add-lowest_left-requires
+add-lowest_left-requires c =
+    let h = here Left c.args.lines.now c.loop-line.line-index _ c.loop-line.left c.requires.inside c.loop-line-test.true (c.loop-line.auto.left ∙ c.requires.left_room) in
     record { end = h.room; few = omega (arith, few_counted Left (ends c.args.lines.now) c.loop-line.left c.loop-line.line-index _ h.within h.at h.room c.loop-line.invariant.0, c.requires.few, c.loop-line-test.true) }
 
-pub add-lowest-right-requires : goal.add-lowest-right-requires
-add-lowest-right-requires c =
-    let h = here Right c.args.lines.now c.loop-line.line-index _ c.loop-line.right c.requires.inside c.loop-line-test.true (c.loop-line.auto.right ∙ c.requires.right-room) in
+pub add-lowest_right-requires : goal.add-lowest_right-requires
+add-lowest_right-requires c =
+    let h = here Right c.args.lines.now c.loop-line.line-index _ c.loop-line.right c.requires.inside c.loop-line-test.true (c.loop-line.auto.right ∙ c.requires.right_room) in
     record { end = h.room; few = omega (arith, few_counted Right (ends c.args.lines.now) c.loop-line.right c.loop-line.line-index _ h.within h.at h.room c.loop-line.invariant.2, c.requires.few, c.loop-line-test.true) }
 
 pub loop-line-preserved : goal.loop-line-preserved
@@ -34,11 +34,11 @@ loop-line-preserved c =
     let i = c.loop-line.line-index in
     let inv = c.loop-line.invariant in
     let l = here Left c.args.lines.now i _ c.loop-line.left c.requires.inside c.loop-line-test.true (c.loop-line.auto.left ∙ c.requires.left_room) in
-    let r = here Right c.args.lines.now i _ c.loop-line.right c.requires.inside c.loop-line-test.true (c.loop-line.auto.right ∙ c.requires.right-room) in (
-      rw c.add-lowest-left.ensures.counts (counts_more Left ps c.loop-line.left i _ l.within l.at l.room inv.0),
-      crowded_more Left ps c.loop-line.left i _ l.within l.at l.room c.args.c l.low inv.0 _ _ inv.1 c.add-lowest-left.ensures.lowest,
-      rw c.add-lowest-right.ensures.counts (counts_more Right ps c.loop-line.right i _ r.within r.at r.room inv.2),
-      crowded_more Right ps c.loop-line.right i _ r.within r.at r.room c.args.c r.low inv.2 _ _ inv.3 c.add-lowest-right.ensures.lowest,
+    let r = here Right c.args.lines.now i _ c.loop-line.right c.requires.inside c.loop-line-test.true (c.loop-line.auto.right ∙ c.requires.right_room) in (
+      rw c.add-lowest_left.ensures.counts (counts_more Left ps c.loop-line.left i _ l.within l.at l.room inv.0),
+      crowded_more Left ps c.loop-line.left i _ l.within l.at l.room c.args.c l.low inv.0 _ _ inv.1 c.add-lowest_left.ensures.lowest,
+      rw c.add-lowest_right.ensures.counts (counts_more Right ps c.loop-line.right i _ r.within r.at r.room inv.2),
+      crowded_more Right ps c.loop-line.right i _ r.within r.at r.room c.args.c r.low inv.2 _ _ inv.3 c.add-lowest_right.ensures.lowest,
     )
 
 pub returns : goal.returns

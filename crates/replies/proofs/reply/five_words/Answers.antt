@@ -3,13 +3,13 @@ use Rattle.std.proofs.Common.{◌≡◌, length, string_bytes, sym, rules}
 use Rattle.std.specs.declared.alloc.Global.{Global}
 use Rattle.replies.proofs.Words.{too_few, too_many, just_five}
 use Rattle.replies.proofs.reply.five_words.Goals as goal
-use Rattle.replies.proofs.reply.five_words.Goals.{in_default_via_then_words_lt5, in-default-via-else-words-lt5+else-words-lt6}
+use Rattle.replies.proofs.reply.five_words.Goals.{in_default-via-then-words-lt5, in_default-via-else-words-lt5+else-words-lt6}
 
-pub returns-in-default : goal.returns-in-default
-returns-in-default c =
-    elim c.in-default.branch [
-      | in_default_via_then_words_lt5 w ↦ sym (too_few (string_bytes {Z = Global}) c.args.words.now (search rules))
-      | in-default-via-else-words-lt5+else-words-lt6 w ↦ sym (too_many (string_bytes {Z = Global}) c.args.words.now (search rules))
+pub returns-in_default : goal.returns-in_default
+returns-in_default c =
+    elim c.in_default.branch [
+      | in_default-via-then-words-lt5 w ↦ sym (too_few (string_bytes {Z = Global}) c.args.words.now (search rules))
+      | in_default-via-else-words-lt5+else-words-lt6 w ↦ sym (too_many (string_bytes {Z = Global}) c.args.words.now (search rules))
     ]
 
 pub returns : goal.returns

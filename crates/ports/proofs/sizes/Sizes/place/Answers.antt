@@ -3,8 +3,8 @@ use Rattle.std.proofs.Common.{◌*◌, ◌/◌, ◌<◌, arith, rules}
 use Rattle.ports.proofs.Places.{line_below}
 use Rattle.ports.proofs.sizes.Sizes.place.Goals as goal
 
-pub overflow-cast-result : goal.overflow-cast-result
-overflow-cast-result c =
+pub overflow_cast-result : goal.overflow_cast-result
+overflow_cast-result c =
     let m = c.args.self.m in
     let n = c.args.self.n in
     let small : m < 256 = search rules in
