@@ -1,13 +1,13 @@
 -- Steps of the tests for refusals, and what follows where no refusal is due.
-use Rattle.std.proofs.Common.{◌≡◌, ℕ, zero, suc, ◌+◌, ◌<◌, ◌≤◌, Bool, true, false, cond, ◌||◌, eqb, ltb, ◌⊎◌, List, [], ◌∷◌, map, length, get_or, drop, Some, None, count_by, Option, sym, refl, ap, ◌∙◌, inl, inr, ⊎_elim, arith}
+use Rattle.std.proofs.Common.{◌≡◌, ℕ, zero, suc, ◌+◌, ◌<◌, ◌≤◌, Bool, true, false, cond, ◌||◌, eqb, ltb, List, [], ◌∷◌, length, get_or, drop, Some, None, count_by, Option, sym, refl, ap, ◌∙◌, ⊎_elim, arith}
 use Rattle.std.proofs.lemmas.List.Sums.{sum_by-cons}
 use Rattle.std.proofs.lemmas.List.{drop_more, drop_all, get_or_default}
 use Rattle.std.proofs.lemmas.Bool.{lt-ltb, le-ltb, ltb-false, or_parts, cases_Bool, cases_lt, cond-true, cond-false, ne_eqb}
 use Rattle.lines.specs.declared.line.Line.{Line}
 use Rattle.lines.specs.declared.line.Side.{Side}
 use Rattle.lines.specs.declared.line.Side.TheVariants.{Left, Right}
-use Rattle.lines.specs.Lines.{ends, on, end_at, degree, DegreesWithin, Inside}
-use Rattle.lines.specs.Refusals.{Refusal, end_above, lowest_above, crowded, crowd_refusal, refusal_due}
+use Rattle.lines.specs.Lines.{ends, on, degree, DegreesWithin, Inside}
+use Rattle.lines.specs.Refusals.{end_above, lowest_above, crowded, crowd_refusal, refusal_due}
 
 -- one line is looked at, and all are
 pub above_here : (ls : List Line) (i : ℕ) (d : Line) → i < length ls → (ltb 511 (get_or ls i d).left || ltb 511 (get_or ls i d).right) ≡ true → end_above (drop i ls) ≡ true

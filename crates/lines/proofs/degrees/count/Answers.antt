@@ -1,5 +1,5 @@
 -- Each line adds one at both of its ends.
-use Rattle.std.proofs.Common.{◌≡◌, ℕ, Option, sym, refl, ap, ◌∙◌, arith}
+use Rattle.std.proofs.Common.{ℕ, Option, sym, ap, ◌∙◌, arith}
 use Rattle.std.proofs.lemmas.List.{take_all}
 use Rattle.lines.specs.declared.degrees.Crowds.{Crowds}
 use Rattle.lines.specs.declared.line.Side.TheVariants.{Left, Right}
@@ -7,7 +7,7 @@ use Rattle.lines.specs.Lines.{ends}
 use Rattle.lines.specs.Refusals.{crowded}
 use Rattle.lines.proofs.Places.{length_ends}
 use Rattle.lines.proofs.Accepted.{none_above}
-use Rattle.lines.proofs.Counting.{Here, here, counts_more, few_counted, crowded_more}
+use Rattle.lines.proofs.Counting.{here, counts_more, few_counted, crowded_more}
 use Rattle.lines.proofs.degrees.count.Goals as goal
 
 abbrev made : Option ℕ → Option ℕ → Crowds

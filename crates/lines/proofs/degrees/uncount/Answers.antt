@@ -1,9 +1,9 @@
 -- Each line empties the counts of both its ends.
-use Rattle.std.proofs.Common.{◌≡◌, sym, refl, ap, ◌∙◌, arith}
+use Rattle.std.proofs.Common.{◌∙◌, arith}
 use Rattle.lines.specs.declared.line.Side.TheVariants.{Left, Right}
 use Rattle.lines.specs.Lines.{ends}
 use Rattle.lines.proofs.Places.{length_ends}
-use Rattle.lines.proofs.Counting.{Here, here, cleared_more, counts_cleared, all_cleared}
+use Rattle.lines.proofs.Counting.{here, cleared_more, counts_cleared, all_cleared}
 use Rattle.lines.proofs.degrees.uncount.Goals as goal
 
 pub loop-line-init : goal.loop-line-init
