@@ -11,7 +11,7 @@ use Rattle.chain.specs.Exchanges.{Painted}
 use Rattle.chain.specs.Colourings.{colour_at, line_at, used_at, Uncoloured, Unused, Facts, Begun, Moves}
 use Rattle.chain.proofs.Paths.{none_some, some_same}
 use Rattle.chain.proofs.Steps.{facts_apart}
-use Rattle.chain.proofs.Tables.{none_there, free_spare}
+use Rattle.chain.proofs.Tables.{free_spare}
 
 pub move_start : (w : Colouring) (ls : List Line) → Moves w w 0 ls
 move_start w ls = record { stored = λ j a l. absurd (omega arith); gone = λ j l. absurd (omega arith); rest = λ j l. refl }

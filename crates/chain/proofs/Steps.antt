@@ -1,11 +1,11 @@
 -- The laws by which lines lose and get colours.
-use Rattle.std.proofs.Common.{◌≡◌, ℕ, ◌+◌, ◌<◌, Bool, false, cond, List, length, get_or, set, is_some, Some, None, vec_items, vec_len, count_by, Option, sym, ap, ◌∙◌, subst, ⊎_elim, arith}
+use Rattle.std.proofs.Common.{◌≡◌, ℕ, ◌+◌, ◌<◌, Bool, false, cond, List, length, get_or, set, is_some, Some, None, vec_items, vec_len, count_by, Option, sym, ap, ◌∙◌, ⊎_elim, arith}
 use Rattle.std.proofs.lemmas.List.{get_or_read_under, get_or-set_same, get_or-set_other}
 use Rattle.std.proofs.lemmas.List.Sums.{sum_by-set}
 use Rattle.std.proofs.lemmas.Bool.{cases_eq}
 use Rattle.lines.specs.declared.line.Side.{Side}
 use Rattle.lines.specs.declared.line.Side.TheVariants.{Left, Right}
-use Rattle.lines.specs.Lines.{ends, end_at, Inside}
+use Rattle.lines.specs.Lines.{end_at, Inside}
 use Rattle.chain.specs.declared.colouring.Colouring.{Colouring}
 use Rattle.chain.specs.Exchanges.{Free, Apart, Swap, Painted, Agrees}
 use Rattle.chain.specs.Colourings.{blank, colour_at, line_at, used_at, slot_of, place_of, coloured, Facts, Writes, Stores, Begun}

@@ -1,5 +1,5 @@
 -- From partners in different halves to shares that differ by at most one.
-use Rattle.std.proofs.Common.{◌≡◌, ℕ, ◌+◌, ◌<◌, ◌≤◌, Bool, true, false, not, ◌≢◌, List, length, get_or, is_some, Some, None, Option, sym, refl, ap, ◌∙◌, subst, ⊎_elim, arith}
+use Rattle.std.proofs.Common.{◌≡◌, ℕ, ◌+◌, ◌<◌, ◌≤◌, Bool, true, false, not, ◌≢◌, List, length, get_or, is_some, Some, None, Option, sym, refl, ap, ◌∙◌, ⊎_elim, arith}
 use Rattle.std.proofs.lemmas.List.{get_or_past}
 use Rattle.std.proofs.lemmas.Bool.{false≢true, cases_lt}
 use Rattle.lines.specs.declared.line.Line.{Line}
@@ -8,7 +8,7 @@ use Rattle.lines.specs.declared.line.Side.TheVariants.{Left, Right}
 use Rattle.lines.specs.Lines.{ends, colours, end_at}
 use Rattle.lines.proofs.Places.{same_length}
 use Rattle.euler.specs.Halves.{share, Halved}
-use Rattle.euler.specs.Pairs.{at, cnt, has, Alternates, Paired}
+use Rattle.euler.specs.Pairs.{at, cnt, has, Paired}
 use Rattle.euler.specs.Walks.{partner, Symmetric, Settled, bit}
 use Rattle.euler.proofs.Counting.{share_cnt}
 use Rattle.euler.proofs.Pairing.{apart}

@@ -1,8 +1,8 @@
 -- One line more is paired at its end.
-use Rattle.std.proofs.Common.{◌≡◌, ℕ, zero, suc, ◌+◌, ◌<◌, ◌≤◌, ◌≢◌, ◌⊎◌, List, length, get_or, set, Some, None, Option, sym, refl, ap, ◌∙◌, subst, inl, inr, ⊎_elim, arith}
+use Rattle.std.proofs.Common.{◌≡◌, ℕ, ◌+◌, ◌<◌, ◌≤◌, ◌≢◌, List, length, set, Some, None, Option, sym, refl, ap, ◌∙◌, ⊎_elim, arith}
 use Rattle.std.proofs.lemmas.List.{length-set, get_or-set_same, get_or-set_other}
 use Rattle.std.proofs.lemmas.Bool.{cases_eq}
-use Rattle.euler.specs.Pairs.{at, Empty, singles_after, partners_after, cnt, has, Alternates, Paired, SinglesAt}
+use Rattle.euler.specs.Pairs.{at, Empty, singles_after, partners_after, cnt, has, Alternates, Paired}
 use Rattle.euler.proofs.Counting.{hit, miss_end, miss_colour}
 
 pub apart : {A : Type 0} {x : A} {o : Option A} → o ≡ None → o ≡ Some x → ⊥

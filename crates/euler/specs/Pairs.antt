@@ -1,5 +1,5 @@
 -- Lines that are partners at the ends of one side.
-use Rattle.std.specs.Prelude.{◌≡◌, ℕ, zero, suc, ◌+◌, ◌<◌, ◌≤◌, Bool, cond, ◌&&◌, ◌≢◌, List, length, Some, None, Option, ◌==◌, slice_index_or, slice_set}
+use Rattle.std.specs.Prelude.{◌≡◌, ℕ, zero, suc, ◌+◌, ◌<◌, ◌≤◌, Bool, cond, ◌&&◌, ◌≢◌, List, Some, None, Option, ◌==◌, slice_index_or, slice_set}
 
 -- what a table holds at a place, none past its end
 abbrev pub at : {A : Type 0} → List (Option A) → ℕ → Option A

@@ -1,5 +1,5 @@
 -- Lines that are put into two halves, so that partners are in different ones. The halves are false and true.
-use Rattle.std.specs.Prelude.{◌≡◌, ℕ, ◌<◌, ◌≤◌, Bool, true, false, not, ◌≢◌, List, length, is_some, Some, None, Option, slice_set}
+use Rattle.std.specs.Prelude.{◌≡◌, ℕ, ◌<◌, Bool, true, false, not, ◌≢◌, List, is_some, Some, None, Option, slice_set}
 use Rattle.lines.specs.declared.line.Side.{Side}
 use Rattle.lines.specs.declared.line.Side.TheVariants.{Left, Right}
 use Rattle.lines.specs.Lines.{other}

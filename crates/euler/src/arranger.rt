@@ -1,5 +1,5 @@
 // The Euler arranger: its room to work in, and its meter.
-ghost use Rattle.std.specs.Prelude.{◌≡◌, zero, suc, ◌≤◌, true, length, IfOk, vec_len, OnOk, count_ones};
+ghost use Rattle.std.specs.Prelude.{◌≡◌, zero, suc, ◌≤◌, true, length, IfOk, vec_len, OnOk};
 ghost use Rattle.std.proofs.Math.Path.{refl};
 ghost use Rattle.lines.specs.Refusals.{told, refusal_due};
 ghost use Rattle.lines.specs.Arrangers.{Arranged};
@@ -7,7 +7,7 @@ ghost use Rattle.euler.specs.Halves.{one_bit_to_64};
 ghost use Rattle.euler.specs.Spreads.{Servable};
 ghost use Rattle.euler.specs.Powers.{served_within};
 ghost use Rattle.std.proofs.Common.{arith};
-ghost use Rattle.std.specs.Int.Count.{ones_in};
+ghost use Rattle.std.specs.Int.Count.{ones, ones_in};
 
 use crate::colour::spread;
 use crate::range::ColourRange;
@@ -90,7 +90,7 @@ impl Arranger for Euler {
 
     ghost within = { λ c h. served_within c h };
 
-    ghost powers = { unfold count_ones ones_in in
+    ghost powers = { unfold ones ones_in in
         elim [
           | zero ↦ λ l. refl
           | suc zero ↦ λ l. refl

@@ -1,5 +1,5 @@
 -- What the two ways of an arrangement say of the bytes.
-use Rattle.std.proofs.Common.{◌≡◌, ℕ, ◌%◌, ◌≤◌, Bool, cond, eqb, List, length, get_or, Some, None, Ok, Err, Option, Result, sym, refl, ap, ◌∙◌, subst, arith}
+use Rattle.std.proofs.Common.{◌≡◌, ℕ, ◌%◌, ◌≤◌, Bool, eqb, List, length, get_or, Some, None, Ok, Err, Option, Result, sym, ap, ◌∙◌, subst, arith}
 use Rattle.std.proofs.lemmas.Bool.{cond-true, eq-eqb}
 use Rattle.lines.specs.declared.line.Line.{Line}
 use Rattle.lines.specs.declared.refusal.ArrangeRefusal.{ArrangeRefusal}
@@ -7,7 +7,7 @@ use Rattle.lines.specs.declared.refusal.ArrangeRefusal.TheVariants.{NotServed, T
 use Rattle.lines.specs.Lines.{ends}
 use Rattle.lines.specs.Arrangers.{Arranged}
 use Rattle.lines.specs.Refusals.{Refusal, refusal, told}
-use Rattle.exports.specs.Bytes.{lines_of, number_of, refusal_in, answer_due, Repeated, Repeats, Recoloured, Settles, Outcome}
+use Rattle.exports.specs.Bytes.{lines_of, number_of, refusal_in, answer_due, Repeats, Settles, Outcome}
 use Rattle.exports.proofs.Written.{same_bytes}
 use Rattle.exports.proofs.Repeats.{ends_so}
 

@@ -1,11 +1,10 @@
 -- Lines that are arranged again and again.
-use Rattle.std.proofs.Common.{◌≡◌, ℕ, ◌+◌, ◌<◌, ◌≤◌, Bool, true, false, cond, ◌||◌, eqb, ltb, ◌⊎◌, List, [], ◌∷◌, map, length, Some, None, Option, sym, refl, ap, ◌∙◌, inl, inr, ⊎_elim, arith}
+use Rattle.std.proofs.Common.{◌≡◌, ℕ, ◌+◌, ◌<◌, ◌≤◌, Bool, false, ◌||◌, eqb, ltb, List, [], ◌∷◌, Some, None, Option, sym, refl, ap, ◌∙◌, ⊎_elim, arith}
 use Rattle.std.proofs.lemmas.Bool.{cases_lt, cond-false, ne_eqb}
 use Rattle.lines.specs.declared.line.Line.{Line}
-use Rattle.lines.specs.declared.line.Side.TheVariants.{Left, Right}
 use Rattle.lines.specs.Lines.{ends}
 use Rattle.lines.specs.Arrangers.{Arranged}
-use Rattle.lines.specs.Refusals.{Refusal, end_above, crowded, crowd_refusal, refusal_due}
+use Rattle.lines.specs.Refusals.{Refusal, end_above, refusal_due}
 use Rattle.lines.proofs.Places.{same_length}
 use Rattle.exports.specs.Bytes.{refusal_in, Repeated}
 

@@ -8,7 +8,7 @@ use Rattle.chain.proofs.empty.all_free.Goals as goal
 
 pub returns : goal.returns
 returns c =
-    let made = c.in-ok-palettes.ensures in
+    let made = c.in_ok-palettes.ensures in
     let p = c.new-palette.result in
-    let same = made.items-if-clones-equal (λ y e. e) in
+    let same = made.items_if_clones_equal (λ y e. e) in
     (made.len, λ k a lk la. ap (λ (ps : List Palette). uses (get_or ps k blank).free a) same ∙ ap (λ (q : Palette). uses q.free a) (get_or-replicate 1024 k p blank lk) ∙ c.new-palette.ensures a la)

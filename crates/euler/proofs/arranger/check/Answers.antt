@@ -15,5 +15,5 @@ servable (Err x) c ls e = tt
 pub returns : goal.returns
 returns c =
     let e : told c.check.result ≡ refusal_due (one_bit_to_64 c.args.c) c.args.c c.args.lines.now
-    = c.check.ensures ∙ ap (λ (b : Bool). refusal_due b c.args.c c.args.lines.now) c.is-served.ensures in
+    = c.check.ensures ∙ ap (λ (b : Bool). refusal_due b c.args.c c.args.lines.now) c.is_served.ensures in
     record { refused = e; accepted = servable c.check.result c.args.c c.args.lines.now e }

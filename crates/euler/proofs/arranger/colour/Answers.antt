@@ -1,5 +1,5 @@
 -- The splits are as many as the zeros below the bit that is set.
-use Rattle.std.proofs.Common.{◌≡◌, ℕ, length, sym, subst, arith}
+use Rattle.std.proofs.Common.{ℕ, length, sym, subst, arith}
 use lib.Count.{count_trailing_zeros}
 use Rattle.lines.specs.Lines.{ends, DegreesWithin}
 use Rattle.euler.specs.Spreads.{Spread}

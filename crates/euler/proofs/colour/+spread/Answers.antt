@@ -1,5 +1,5 @@
 -- Each half is coloured with half of the colours.
-use Rattle.std.proofs.Common.{◌≡◌, ℕ, ◌+◌, ◌*◌, ◌^◌, ◌<◌, ◌≤◌, List, ◌++◌, length, take, drop, filter, sym, refl, ap, ◌∙◌, subst, arith}
+use Rattle.std.proofs.Common.{◌≡◌, ℕ, ◌+◌, ◌^◌, ◌≤◌, List, ◌++◌, length, take, drop, filter, sym, ap, ◌∙◌, subst, arith}
 use Rattle.std.proofs.lemmas.List.{take_at, length-take-le}
 use Rattle.lines.specs.declared.line.Line.{Line}
 use Rattle.lines.specs.Lines.{ends, DegreesWithin, Inside}
@@ -21,13 +21,13 @@ returns-then-range-eq1 t c =
 pub halve-requires : goal.halve-requires
 halve-requires t c = record { few = c.requires.few; inside = above_inside c.args.lines.now c.requires.inside }
 
-pub split-at-mut-low-requires : goal.split-at-mut-low-requires
-split-at-mut-low-requires t c =
+pub split_at_mut-low-requires : goal.split_at_mut-low-requires
+split_at_mut-low-requires t c =
     omega (arith, c.halve.auto.lines, room_low (length c.args.lines.now) (length c.args.room.now) 0 c.args.range.splits (several c.args.range.count c.args.range.splits c.requires.power c.if-range-eq1.false) c.requires.room)
 
-pub split-at-mut-high-requires : goal.split-at-mut-high-requires
-split-at-mut-high-requires t c =
-    omega (arith, c.halve.auto.lines, c.split-at-mut-low.ensures.back_len, room_low (length c.args.lines.now) (length c.args.room.now) 0 c.args.range.splits (several c.args.range.count c.args.range.splits c.requires.power c.if-range-eq1.false) c.requires.room)
+pub split_at_mut-high-requires : goal.split_at_mut-high-requires
+split_at_mut-high-requires t c =
+    omega (arith, c.halve.auto.lines, c.split_at_mut-low.ensures.back_len, room_low (length c.args.lines.now) (length c.args.room.now) 0 c.args.range.splits (several c.args.range.count c.args.range.splits c.requires.power c.if-range-eq1.false) c.requires.room)
 
 -- what a half needs to be coloured
 half_low : (ls ms zs : List Line) (r s : ℕ) → Halved ls ms → zs ≡ filter is_low ms → s + 1 ≡ r → DegreesWithin (2 ^ r) (ends ls) → Inside (ends ls) → Inside (ends zs) × DegreesWithin (2 ^ s) (ends zs)
@@ -62,7 +62,7 @@ spread-requires t c =
               (
                 omega (arith, c.halves.ensures.lower.1, c.requires.six),
                 (
-                  omega (arith, room, c.halve.auto.lines, c.split-at-mut-low.ensures.back_len, c.split-at-mut-high.ensures.back_len),
+                  omega (arith, room, c.halve.auto.lines, c.split_at_mut-low.ensures.back_len, c.split_at_mut-high.ensures.back_len),
                   omega (arith, next_power s r c.halves.ensures.lower.1, c.halves.ensures.lower.0, c.requires.top),
                 ),
               ),
@@ -94,7 +94,7 @@ spread-requires-2 t c =
               (
                 omega (arith, c.halves.ensures.upper.1, c.requires.six),
                 (
-                  omega (arith, room, c.spread.auto.room, c.halve.auto.lines, c.split-at-mut-low.ensures.back_len, c.split-at-mut-high.ensures.back_len),
+                  omega (arith, room, c.spread.auto.room, c.halve.auto.lines, c.split_at_mut-low.ensures.back_len, c.split_at_mut-high.ensures.back_len),
                   omega (arith, next_power s r c.halves.ensures.upper.1, same_power c.halves.result.0.splits s r c.halves.ensures.lower.1 c.halves.ensures.upper.1, c.halves.ensures.upper.0, c.requires.top),
                 ),
               ),
@@ -116,8 +116,8 @@ returns t c =
     let s = c.halves.result.0.splits in
     let s2 = c.halves.result.1.splits in
     let r = c.args.range.splits in
-    let la : length xs ≡ a = c.spread.auto.lines ∙ length-take-le a dl (omega (arith, c.deal-lows.ensures.within, c.deal-lows.auto.low, c.split-at-mut-low.ensures.front-len)) in
-    let lb : length ys ≡ b = c.spread-2.auto.lines ∙ length-take-le b dh (omega (arith, c.deal-lows.ensures.within, c.deal-lows.auto.high, c.split-at-mut-high.ensures.front-len)) in
+    let la : length xs ≡ a = c.spread.auto.lines ∙ length-take-le a dl (omega (arith, c.deal-lows.ensures.within, c.deal-lows.auto.low, c.split_at_mut-low.ensures.front_len)) in
+    let lb : length ys ≡ b = c.spread-2.auto.lines ∙ length-take-le b dh (omega (arith, c.deal-lows.ensures.within, c.deal-lows.auto.high, c.split_at_mut-high.ensures.front_len)) in
     let woven : c.gather.new.lines ≡ weave ms xs ys
     = c.gather.ensures ∙ ap (λ (zs : List Line). weave ms zs (take b (ys ++ drop b dh))) (take_at xs (drop a dl) a la) ∙ ap (λ (zs : List Line). weave ms xs zs) (take_at ys (drop b dh) b lb) in
     let ex : ends xs ≡ ends (filter is_low ms) = c.spread.ensures.ends ∙ ap ends c.deal-lows.ensures.low in

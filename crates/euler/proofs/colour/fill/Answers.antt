@@ -1,5 +1,5 @@
 -- One line more gets the colour.
-use Rattle.std.proofs.Common.{◌≡◌, ◌<◌, length, sym, refl, ap, ◌∙◌, arith, below_more}
+use Rattle.std.proofs.Common.{◌<◌, length, refl, ◌∙◌, arith, below_more}
 use Rattle.std.proofs.lemmas.List.{map-set, get_or-set_same, get_or-set_other}
 use Rattle.lines.specs.Lines.{colours}
 use Rattle.lines.proofs.Places.{ends_set, length_colours}

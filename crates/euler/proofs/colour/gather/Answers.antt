@@ -1,8 +1,8 @@
 -- One line more comes from its half.
-use Rattle.std.proofs.Common.{◌≡◌, ◌<◌, ◌≤◌, sym, refl, arith}
+use Rattle.std.proofs.Common.{refl, arith}
 use Rattle.euler.proofs.Weaving.{low_left, high_left, gather_low, gather_high, gather_all}
 use Rattle.euler.proofs.colour.gather.Goals as goal
-use Rattle.euler.proofs.colour.gather.Goals.{then_line_eq0, else_line_eq0}
+use Rattle.euler.proofs.colour.gather.Goals.{then-line-eq0, else-line-eq0}
 
 pub loop-line-init : goal.loop-line-init
 loop-line-init c = record { woven = refl; rest = refl; lows = omega (arith, c.requires.low); highs = omega (arith, c.requires.high) }
@@ -18,9 +18,9 @@ bounds-high-highs c =
 pub loop-line-preserved : goal.loop-line-preserved
 loop-line-preserved c =
     elim c.if-line-eq0.branch [
-      | then_line_eq0 w ↦ rw (w.lines-is, w.lows-is, w.highs-is)
+      | then-line-eq0 w ↦ rw (w.lines-is, w.lows-is, w.highs-is)
           (gather_low c.args.lines.now c.args.low.now c.args.high.now c.loop-line.lines c.loop-line.line-index c.loop-line.lows c.loop-line.highs c.loop-line.invariant _ (omega arith) c.loop-line.auto.lines w.if-line-eq0.true)
-      | else_line_eq0 w ↦ rw (w.lines-is, w.lows-is, w.highs-is)
+      | else-line-eq0 w ↦ rw (w.lines-is, w.lows-is, w.highs-is)
           (gather_high c.args.lines.now c.args.low.now c.args.high.now c.loop-line.lines c.loop-line.line-index c.loop-line.lows c.loop-line.highs c.loop-line.invariant _ (omega arith) c.loop-line.auto.lines w.if-line-eq0.false)
     ]
 

@@ -1,5 +1,5 @@
 -- The single line at the end of each line is forgotten.
-use Rattle.std.proofs.Common.{◌<◌, ◌≤◌, arith}
+use Rattle.std.proofs.Common.{arith}
 use Rattle.euler.proofs.Counting.{end_here}
 use Rattle.euler.proofs.Pairing.{cleared_more, cleared_all}
 use Rattle.euler.proofs.pairs.clear.Goals as goal

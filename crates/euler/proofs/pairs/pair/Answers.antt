@@ -1,5 +1,5 @@
 -- Each line meets the single line at its end.
-use Rattle.std.proofs.Common.{◌≡◌, ◌<◌, ◌≤◌, length, refl, arith}
+use Rattle.std.proofs.Common.{◌≡◌, length, refl, arith}
 use Rattle.euler.specs.Pairs.{at}
 use Rattle.euler.proofs.Counting.{end_here}
 use Rattle.euler.proofs.Pairing.{pairing_met, pairing_all}

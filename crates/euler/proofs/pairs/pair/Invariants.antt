@@ -1,5 +1,4 @@
 -- The lines up to here are paired.
-use Rattle.std.proofs.Common.{◌≡◌, length}
 use Rattle.lines.specs.Lines.{ends, end_at}
 use Rattle.euler.specs.Pairs.{at}
 use Rattle.euler.proofs.Pairing.{Pairing}

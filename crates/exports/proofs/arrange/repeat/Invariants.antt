@@ -5,5 +5,5 @@ use Rattle.exports.proofs.arrange.repeat.Given as goal
 
 abbrev pub invariant-loop-done : goal.invariant-loop-done
 invariant-loop-done g l =
-    (refusal_in l.-done (g.A.Arranger.served l.c) l.c l.initial.lines ≡ None)
-    × Repeated l.-done l.c l.initial.lines l.lines
+    (refusal_in l._done (g.A.Arranger.served l.c) l.c l.initial.lines ≡ None)
+    × Repeated l._done l.c l.initial.lines l.lines

@@ -5,10 +5,10 @@ use Rattle.exports.specs.Bytes.{lines_of}
 use Rattle.exports.proofs.Written.{length_lines, recoloured}
 use Rattle.exports.proofs.bytes.recolour.Goals as goal
 
-pub put-colours-requires : goal.put-colours-requires
-put-colours-requires c =
+pub put_colours-requires : goal.put_colours-requires
+put_colours-requires c =
     omega (arith, same_length (lines_of c.args.bytes.now) c.args.lines.now c.requires, length_lines c.args.bytes.now)
 
 pub returns : goal.returns
 returns c =
-    recoloured c.args.bytes.now c.put-colours.new.bytes c.args.lines.now c.put-colours.auto.bytes c.requires c.put-colours.ensures.ends c.put-colours.ensures.colours
+    recoloured c.args.bytes.now c.put_colours.new.bytes c.args.lines.now c.put_colours.auto.bytes c.requires c.put_colours.ensures.ends c.put_colours.ensures.colours

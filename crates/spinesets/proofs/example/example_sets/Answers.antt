@@ -3,5 +3,5 @@ use Rattle.std.proofs.Common.{arith}
 use Rattle.spinesets.proofs.Steps.{not_refused}
 use Rattle.spinesets.proofs.example.example_sets.Goals as goal
 
-pub no-memory-requires : goal.no-memory-requires
-no-memory-requires g c = not_refused (g.A.Arranger.served 4) c.in-Err.error (g.met.A.Arranger.powers 2 (omega arith)) c.in-Err.ensures
+pub no_memory-requires : goal.no_memory-requires
+no_memory-requires g c = not_refused (g.A.Arranger.served 4) c.in-Err.error (g.met.A.Arranger.powers 2 (omega arith)) c.in-Err.ensures

@@ -7,7 +7,7 @@ use Rattle.spinesets.proofs.share.assign.Goals as goal
 
 pub loop-k-preserved : goal.loop-k-preserved
 loop-k-preserved c =
-    assign_more c.args.transfers.now c.args.lines.now c.loop-k.k _ _ (vec_items c.loop-k.assigned) (vec_items c.push.new.self) _ c.loop-k-test.true (omega (arith, c.requires, c.loop-k-test.true)) c.loop-k.invariant.0 c.loop-k.invariant.1 refl refl c.in-ok-push.ensures.items
+    assign_more c.args.transfers.now c.args.lines.now c.loop-k.k _ _ (vec_items c.loop-k.assigned) (vec_items c.push.new.self) _ c.loop-k-test.true (omega (arith, c.requires, c.loop-k-test.true)) c.loop-k.invariant.0 c.loop-k.invariant.1 refl refl c.in_ok-push.ensures.items
 
 pub returns : goal.returns
 returns c =

@@ -5,5 +5,5 @@ use Rattle.spinesets.proofs.text.sets_text.Goals as goal
 
 pub loop-spine-preserved : goal.loop-spine-preserved
 loop-spine-preserved c =
-    set_more c.loop-spine.spine c.args.assigned.now (string_bytes c.loop-spine.text) (string_bytes c.in-ok-line.line) c.as-str.result.now (string_bytes c.push-str.new.self)
-    c.loop-spine.invariant c.in-ok-line.ensures c.as-str.ensures.value c.in-ok-push-str.ensures.bytes
+    set_more c.loop-spine.spine c.args.assigned.now (string_bytes c.loop-spine.text) (string_bytes c.in_ok-line.line) c.as_str.result.now (string_bytes c.push_str.new.self)
+    c.loop-spine.invariant c.in_ok-line.ensures c.as_str.ensures.value c.in_ok-push_str.ensures.bytes

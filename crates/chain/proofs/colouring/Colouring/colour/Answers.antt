@@ -8,11 +8,11 @@ pub returns : goal.returns
 unfolding Consistent Moved Partly
 returns c =
     let ls = c.args.lines.now in
-    let w = c.colour-all.new.self in
-    let u = c.write-back.new.self in
-    let gone = all_gone c.args.c ls c.write-back.new.lines w u c.write-back.ensures.ends c.colour-all.ensures.consistent c.colour-all.ensures.partly c.write-back.ensures.moved in
+    let w = c.colour_all.new.self in
+    let u = c.write_back.new.self in
+    let gone = all_gone c.args.c ls c.write_back.new.lines w u c.write_back.ensures.ends c.colour_all.ensures.consistent c.colour_all.ensures.partly c.write_back.ensures.moved in
     record {
-      arranged = arranged c.args.c ls c.write-back.new.lines w u c.write-back.ensures.ends c.colour-all.ensures.consistent c.colour-all.ensures.partly c.write-back.ensures.moved;
-      uncoloured = all_uncoloured (ends ls) u c.write-back.ensures.consistent gone;
-      unused = all_unused (ends ls) u c.write-back.ensures.consistent gone;
+      arranged = arranged c.args.c ls c.write_back.new.lines w u c.write_back.ensures.ends c.colour_all.ensures.consistent c.colour_all.ensures.partly c.write_back.ensures.moved;
+      uncoloured = all_uncoloured (ends ls) u c.write_back.ensures.consistent gone;
+      unused = all_unused (ends ls) u c.write_back.ensures.consistent gone;
     }

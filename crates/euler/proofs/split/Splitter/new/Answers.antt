@@ -7,18 +7,13 @@ only_none : (Q : Option ℕ → Type 0) → ((z : ℕ) → Q (Some z) → ⊥) �
 only_none Q h None q = refl
 only_none Q h (Some z) q = absurd (h z q)
 
-pub invariant-of-result : goal.invariant-of-result
-invariant-of-result c =
-    let made = c.in-ok-single.ensures in (
-      made.len,
-      (
-        c.in-ok-left-partner.ensures.len,
-        (
-          c.in-ok-right-partner.ensures.len,
-          (
-            c.in-ok-halves.ensures.len,
-            ((λ v. ap (λ xs. get_or xs v None) (made.items-if-clones-equal (only_none _ (λ z q. q))) ∙ all_same 512 v None), tt),
-          ),
-        ),
-      ),
-    )
+pub invariant_of-result : goal.invariant_of-result
+invariant_of-result c =
+    let made = c.in_ok-single.ensures in
+    record {
+      ends = made.len;
+      lefts = c.in_ok-left_partner.ensures.len;
+      rights = c.in_ok-right_partner.ensures.len;
+      places = c.in_ok-halves.ensures.len;
+      empty = λ v. ap (λ xs. get_or xs v None) (made.items_if_clones_equal (only_none _ (λ z q. q))) ∙ all_same 512 v None;
+    }
