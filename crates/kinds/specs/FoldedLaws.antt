@@ -1,4 +1,4 @@
--- The two laws at the folded kind.
+-- The proofs of the two laws at the folded kind.
 use Rattle.std.specs.Prelude.{◌≡◌, ℕ, ◌+◌, ◌-◌, ◌*◌, ◌/◌, ◌%◌, cond, length, pos, negsuc, nat_lt, refl}
 use Rattle.std.proofs.Common.{ap, arith, lt-ltb, le-ltb}
 use Rattle.std.proofs.lemmas.Nat.{div-add-mod'}

@@ -1,4 +1,4 @@
--- The two laws at the straight kind.
+-- The proofs of the two laws at the straight kind.
 use Rattle.std.specs.Prelude.{ℕ, ◌*◌, ◌/◌, ◌%◌, length, pos, refl}
 use Rattle.std.proofs.Common.{ap, arith, lt-ltb}
 use Rattle.std.proofs.lemmas.Nat.{div-add-mod'}

@@ -2,18 +2,18 @@
 // It ends with status 1 where there is nothing to trace.
 #![tactic(auto)]
 
-use anyhow::anyhow;
 use replies::reply::reply_to;
 use std::env;
+use std::process::ExitCode;
 
-fn main(rt: HostRuntime) -> anyhow::Result<()> {
+fn main(rt: HostRuntime) -> anyhow::Result<ExitCode> {
     let heap = rt.alloc();
     let words: Vec<String> = env::args(&rt)?.skip(1).collect(heap)?;
     let reply = reply_to(heap, words.as_slice())?;
     rt.print(reply.text.as_str())?;
     if reply.traced {
-        Ok(())
+        Ok(ExitCode::SUCCESS)
     } else {
-        Err(anyhow!("nothing traced"))
+        Ok(ExitCode::FAILURE)
     }
 }
