@@ -38,8 +38,8 @@ degree s v ps = count_by (λ p. nat_eq (on s p) v) ps
 abbrev pub DegreesWithin : ℕ → List (ℕ × ℕ) → Type 0
 DegreesWithin c ps = (s : Side) (v : ℕ) → degree s v ps ≤ c
 
--- a proper edge colouring with c colours: one colour for each line in order, each below c, and lines with a common left
--- end or a common right end differ
+-- a proper edge colouring with c colours: one colour for each line in order, each below c, and two lines that meet at an
+-- end of either side have different colours
 pub record Proper (c : ℕ) (ps : List (ℕ × ℕ)) (cs : List ℕ) : Type 0 where
   pub each : length cs ≡ length ps
   pub below : (k : ℕ) → k < length ps → slice_index cs k < c

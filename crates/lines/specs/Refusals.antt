@@ -43,8 +43,8 @@ crowd_refusal (Some v) r = Some (record { number = 26; end = Some (Left, v) })
 crowd_refusal None (Some v) = Some (record { number = 26; end = Some (Right, v) })
 crowd_refusal None None = None
 
--- the refusal that is due, or none: the first that holds of 23 the count is not served, 24 over 1,024 lines, 25 an end
--- above 511, 26 an end with more than c lines
+-- the refusal that is due, or none: 23 where the count is not served, else 24 for too many lines, else 25 for an end that
+-- is too high, else 26 for a crowded end
 abbrev pub refusal_due : Bool → ℕ → List Line → Option Refusal
 refusal_due served c ls =
     cond served

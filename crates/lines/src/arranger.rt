@@ -23,7 +23,7 @@ pub trait Arranger {
     fn meter(&self) -> u32
         ensures { result ≡ shows self.now };
 
-    // Gives the lines colours below c so that lines with a common left end or a common right end differ. A refusal
+    // Colours the lines properly with c colours: no two that meet at an end of either side have the same. A refusal
     // changes neither lines nor meter.
     fn arrange(&mut self, lines: &mut [Line], c: u8) -> Result<(), ArrangeRefusal>
         ensures refused { told result ≡ refusal_due (served c) c lines.old }
