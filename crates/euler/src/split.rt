@@ -1,5 +1,5 @@
 // The split of lines into two halves whose shares at every end, left or right, differ by at most one.
-ghost use Rattle.std.specs.Prelude.{◌≡◌, ℕ, ◌<◌, ◌≤◌, false, length, Some, None, vec_len, slice_index, slice_index_or};
+ghost use Rattle.std.specs.Prelude.{◌≡◌, ℕ, ◌<◌, ◌≤◌, false, length, IfOk, Some, None, vec_len, slice_index, slice_index_or};
 ghost use Rattle.lines.specs.Lines.{ends, colours, Inside};
 ghost use Rattle.lines.specs.Refusals.{told, end_above};
 ghost use Rattle.euler.specs.Halves.{Halved, split_refusal, Splits};
@@ -29,8 +29,10 @@ pub struct Splitter {
 }
 
 impl Splitter {
-    // A splitter with empty tables.
-    pub fn new(heap: Global) -> Result<Splitter, AllocError> {
+    // A splitter in which no line is single.
+    pub fn new(heap: Global) -> Result<Splitter, AllocError>
+        ensures { IfOk result (λ s. Empty s.single.items) }
+    {
         let single = vec![in heap; None; 512]?;
         let left_partner = vec![in heap; None; 1024]?;
         let right_partner = vec![in heap; None; 1024]?;
