@@ -33,7 +33,7 @@ impl Splitter {
     pub fn new(heap: Global) -> Result<Splitter, AllocError>
         ensures { IfOk result (λ s. Empty s.single.items) }
     {
-        let single = vec![in heap; None; 512]?;
+        let single = none_single(heap, 512)?;
         let left_partner = vec![in heap; None; 1024]?;
         let right_partner = vec![in heap; None; 1024]?;
         let halves = vec![in heap; None; 1024]?;
@@ -72,6 +72,14 @@ impl Splitter {
         let halves = self.halves.as_mut_slice();
         halve_with(lines, single, left, right, halves);
     }
+}
+
+// A table of so many ends at which no line is single.
+fn none_single(heap: Global, ends: usize) -> Result<Vec<Option<u16>>, AllocError>
+    ensures { IfOk result (λ v. (vec_len v ≡ ends) × Empty v.items) }
+{
+    let single = vec![in heap; None; ends]?;
+    Ok(single)
 }
 
 // The colour that tells a half.
