@@ -7,6 +7,7 @@ ghost use Rattle.cabinet.specs.Laws.{Arrival, Meeting};
 use crossbar::refusal::{RouteError, RouteRefusal};
 use crossbar::wires::{FarEnd, Hop, Route, Switch, Wire};
 use ports::sizes::Sizes;
+use ports::transfer::Transfer;
 use std::alloc::{AllocError, Global};
 
 // The first byte of a packet, which a switch eats, and the rest.
@@ -20,7 +21,8 @@ fn eat(bytes: &[u8]) -> Result<(u8, &[u8]), RouteRefusal>
 }
 
 // A cabinet kind. An implementation gives its meaning, shows the two laws, and answers by its meaning; what a packet
-// does then follows for every kind alike.
+// does then follows for every kind alike. Sizes come with each call: a kind is
+// chosen once, and sizes are set again and again.
 pub trait Cabinet {
     // What the kind means for each m and n: its wires, the exits that bytes name, its headers.
     ghost meaning: { ℕ → ℕ → Meaning };
@@ -33,28 +35,23 @@ pub trait Cabinet {
     fn exit(&self, sizes: Sizes, entry: u16, byte: u8) -> Option<i32>
         ensures { result ≡ (meaning sizes.m sizes.n).exit entry byte };
 
-    // The header for a sender, a receiver and a spine.
+    // The header for a transfer and a spine.
     fn header(
         &self,
         sizes: Sizes,
-        sender: u16,
-        receiver: u16,
+        transfer: Transfer,
         spine: u8,
     ) -> Result<(u8, u8, u8), RouteRefusal>
-        ensures { told result ≡ headed (meaning sizes.m sizes.n) sizes.m sizes.n sender receiver spine };
+        ensures { told result ≡ headed (meaning sizes.m sizes.n) sizes.m sizes.n transfer.sender transfer.receiver spine };
 
     // What a switch does with one byte: the wire by which the packet leaves, and its far end.
     fn leave(&self, sizes: Sizes, switch: Switch, entry: u16, byte: u8) -> Result<Hop, RouteRefusal>
         ensures { told result ≡ hop (meaning sizes.m sizes.n) switch entry byte }
     {
-        let Some(exit) = self.exit(sizes, entry, byte) else {
-            return Err(RouteRefusal::TopBits);
-        };
+        let exit = self.exit(sizes, entry, byte).ok_or(RouteRefusal::TopBits)?;
         let wire = Wire::FromExit(switch, exit);
-        match self.far_end(sizes, wire) {
-            Some(end) => Ok(Hop { wire, end }),
-            None => Err(RouteRefusal::NoWire),
-        }
+        let end = self.far_end(sizes, wire).ok_or(RouteRefusal::NoWire)?;
+        Ok(Hop { wire, end })
     }
 
     // One hop: the switch eats one byte, and the packet leaves with the others at the exit that the byte names.
@@ -82,9 +79,8 @@ pub trait Cabinet {
         ensures { told_rest result ≡ walked (meaning sizes.m sizes.n) sizes.m sizes.n sender bytes.now }
     {
         sizes.check_sender(sender)?;
-        let Some(mut at) = self.far_end(sizes, Wire::FromNode(sender)) else {
-            return Err(RouteRefusal::NoWire);
-        };
+        let own = Wire::FromNode(sender);
+        let mut at = self.far_end(sizes, own).ok_or(RouteRefusal::NoWire)?;
         let mut unread = bytes;
         loop {
             match at {

@@ -1,136 +1,68 @@
--- The bits of a word after one of them changes, and its lowest bit that is 1.
-use Rattle.std.proofs.Common.{◌≡◌, ℕ, zero, suc, ◌+◌, ◌-◌, ◌*◌, ◌/◌, ◌%◌, ◌^◌, ◌<◌, ◌≤◌, Bool, true, false, not, ◌&&◌, ◌||◌, eqb, ◌⊎◌, sym, refl, ap, ◌∙◌, subst, inl, inr, ⊎_elim, pow-suc, div-one, one-add, arith}
+-- Which colours a palette has in use after one of its bits changes, and the lowest that it has free.
+use Rattle.std.proofs.Common.{◌≡◌, ℕ, ◌*◌, ◌%◌, ◌^◌, ◌<◌, ◌≤◌, Bool, true, false, not, ◌&&◌, ◌||◌, eqb, min, w64, Some, None, sym, refl, ap, pow_mono, ◌∙◌, ⊎_elim, arith}
+use Rattle.std.specs.Int.{bit_at, bit_not}
+use lib.Bits.{bit_and, bit_or}
+use lib.Count.{count_trailing_zeros}
+use Rattle.std.specs.Int.Count.{trailing_of_zero}
+use Rattle.std.specs.Int.Bits.{and_lt}
+use Rattle.std.proofs.Math.Pow.{ones_sub-lt}
+use Rattle.std.proofs.lemmas.Bool.Decides.{nat_tests}
+use Rattle.std.proofs.lemmas.Nat.Bits.{bit_at_and, bit_at_ones, bit_at-zero, bit_at-trailing_zeros, bit_at_set_same, bit_at_set_other, bit_at_clear_same, bit_at_clear_other}
+use Rattle.std.proofs.lemmas.Bool.{cases_eq, cases_lt, eq-eqb, ne_eqb}
 use native.Mathlib.Nat.{div-eq_of_lt}
-use lib.Bits.{bit_and, bit_or, bit_xor, xor_zero_r, or_zero_r}
-use lib.Count.{count_trailing_zeros, under}
-use Rattle.std.proofs.lemmas.Nat.{pow_pos, pow-add, pow_below, mod_below, one_shl, shl-shr, shr-shr, and_shr, or_shr, xor_shr, and_mod, or_mod, xor_mod}
-use Rattle.std.proofs.lemmas.Bool.{cases_eq, cases_lt, eq-eqb, ne_eqb, eqb-false}
-use Rattle.chain.specs.Palettes.{uses}
+use Rattle.chain.specs.declared.colour.Colour.{Colour}
+use Rattle.chain.specs.Palettes.{uses, Lowest}
+use Rattle.chain.proofs.Paths.{none_some}
 
--- the bit a of n
-abbrev pub bit : ℕ → ℕ → ℕ
-bit n a = n / 2 ^ a % 2
+-- a word has no bits above the 64th
+uses_above : (n a : ℕ) → n < 2 ^ 64 → 64 ≤ a → uses n a ≡ true
+uses_above n a l la = ap (λ x. eqb (x % 2) 0) (div-eq_of_lt (let h : n < 2 ^ a = omega (arith, pow_mono {i = 64} la) in h))
 
-two : (n : ℕ) → (n % 2 ≡ 0) ⊎ (n % 2 ≡ 1)
-two n = ⊎_elim inl (λ (ne : n % 2 ≡ 0 → ⊥). inr (omega (arith, mod_below n 2 (omega arith)))) (cases_eq (n % 2) 0)
-
-bit_suc : (n a : ℕ) → bit n (suc a) ≡ bit (n / 2) a
-bit_suc n a = ap (λ i. n / 2 ^ i % 2) (sym (one-add a)) ∙ ap (λ z. z % 2) (sym (shr-shr n 1 a))
-
-bit_zero : (n : ℕ) → bit n 0 ≡ n % 2
-bit_zero n = ap (λ z. z % 2) (div-one n)
-
--- a power of two has one bit
-pow_same : (k : ℕ) → bit (2 ^ k) k ≡ 1
-pow_same k = ap (λ z. z % 2) (ap (λ y. y / 2 ^ k) (let e : 2 ^ k ≡ 1 * 2 ^ k = omega arith in e) ∙ shl-shr 1 k)
-
-pow_other : (k a : ℕ) → (a ≡ k → ⊥) → bit (2 ^ k) a ≡ 0
-pow_other k a ne =
+pub uses_insert : (n k a : ℕ) → n < 2 ^ 64 → k < 64 → uses (bit_and n (bit_not w64 (1 * 2 ^ k % 2 ^ 64))) a ≡ (eqb a k || uses n a)
+uses_insert n k a ln lk =
     ⊎_elim
-    (λ (l : a < k).
-    let j = k - a - 1 in
-    let e : k ≡ suc j + a = omega arith in
-    let p : 2 ^ k ≡ (2 ^ j * 2) * 2 ^ a = ap (λ i. 2 ^ i) e ∙ pow-add 2 (suc j) a ∙ ap (λ y. y * 2 ^ a) (pow-suc 2 j) in
-    ap (λ y. y / 2 ^ a % 2) p ∙ ap (λ z. z % 2) (shl-shr (2 ^ j * 2) a) ∙ omega arith)
-    (λ (l : k ≤ a). ap (λ z. z % 2) (div-eq_of_lt (pow_below k a (omega arith))))
-    (cases_lt a k)
-
--- `1 << k` in 64 bits
-pub one_bit : (k : ℕ) → k < 64 → (1 * 2 ^ k) % 18446744073709551616 ≡ 2 ^ k
-one_bit k l = one_shl k 64 l
-
-bit_of_xor : (m n a : ℕ) → bit (bit_xor m n) a ≡ bit_xor (bit m a) (bit n a)
-bit_of_xor m n a = ap (λ z. z % 2) (xor_shr m n a) ∙ xor_mod (m / 2 ^ a) (n / 2 ^ a) 1
-
-bit_of_or : (m n a : ℕ) → bit (bit_or m n) a ≡ bit_or (bit m a) (bit n a)
-bit_of_or m n a = ap (λ z. z % 2) (or_shr m n a) ∙ or_mod (m / 2 ^ a) (n / 2 ^ a) 1
-
-bit_of_and : (m n a : ℕ) → bit (bit_and m n) a ≡ bit_and (bit m a) (bit n a)
-bit_of_and m n a = ap (λ z. z % 2) (and_shr m n a) ∙ and_mod (m / 2 ^ a) (n / 2 ^ a) 1
-
-set_bit : (n a : ℕ) → uses n a ≡ false → bit n a ≡ 1
-set_bit n a h = ⊎_elim (λ (z : bit n a ≡ 0). absurd (eqb-false (bit n a) 0 h z)) (λ (z : bit n a ≡ 1). z) (two (n / 2 ^ a))
-
-pub uses_insert : (n k a : ℕ) → uses n k ≡ false → uses (bit_xor n (2 ^ k)) a ≡ (eqb a k || uses n a)
-uses_insert n k a h =
-    ⊎_elim
-    (λ (z : a ≡ k).
-    let one : bit n a ≡ 1 = ap (bit n) z ∙ set_bit n k h in
-    let pow : bit (2 ^ k) a ≡ 1 = ap (bit (2 ^ k)) z ∙ pow_same k in
-    let off : bit (bit_xor n (2 ^ k)) a ≡ 0 = bit_of_xor n (2 ^ k) a ∙ ap (λ x. bit_xor x (bit (2 ^ k) a)) one ∙ ap (bit_xor 1) pow in
-    eq-eqb (bit (bit_xor n (2 ^ k)) a) 0 off ∙ sym (ap (λ (t : Bool). t || uses n a) (eq-eqb a k z)))
+    (λ (z : a ≡ k). ap (λ i. uses (bit_and n (bit_not w64 (1 * 2 ^ k % 2 ^ 64))) i) z ∙ ap (λ x. eqb x 0) (bit_at_clear_same w64 n k lk) ∙ sym (ap (λ (t : Bool). t || uses n a) (eq-eqb a k z)))
     (λ (ne : a ≡ k → ⊥).
-    let same : bit (bit_xor n (2 ^ k)) a ≡ bit n a = bit_of_xor n (2 ^ k) a ∙ ap (bit_xor (bit n a)) (pow_other k a ne) ∙ xor_zero_r (bit n a) in
-    ap (λ x. eqb x 0) same ∙ sym (ap (λ (t : Bool). t || uses n a) (ne_eqb a k ne)))
+    ⊎_elim
+    (λ (la : a < 64). ap (λ x. eqb x 0) (bit_at_clear_other w64 n k lk a la ne))
+    (λ (ha : 64 ≤ a). uses_above (bit_and n (bit_not w64 (1 * 2 ^ k % 2 ^ 64))) a (and_lt 64 n (bit_not w64 (1 * 2 ^ k % 2 ^ 64)) ln (ones_sub-lt 64 (1 * 2 ^ k % 2 ^ 64))) ha ∙ sym (uses_above n a ln ha))
+    (cases_lt a 64) ∙
+    sym (ap (λ (t : Bool). t || uses n a) (ne_eqb a k ne)))
     (cases_eq a k)
 
-or_one : (n : ℕ) → bit_or (n % 2) 1 ≡ 1
-or_one n = ⊎_elim (λ (z : n % 2 ≡ 0). ap (λ x. bit_or x 1) z) (λ (z : n % 2 ≡ 1). ap (λ x. bit_or x 1) z) (two n)
-
-pub uses_remove : (n k a : ℕ) → uses (bit_or n (2 ^ k)) a ≡ (not (eqb a k) && uses n a)
-uses_remove n k a =
+pub uses_remove : (n k a : ℕ) → k < 64 → uses (bit_or n (1 * 2 ^ k % 2 ^ 64)) a ≡ (not (eqb a k) && uses n a)
+uses_remove n k a lk =
     ⊎_elim
-    (λ (z : a ≡ k).
-    let pow : bit (2 ^ k) a ≡ 1 = ap (bit (2 ^ k)) z ∙ pow_same k in
-    let on : bit (bit_or n (2 ^ k)) a ≡ 1 = bit_of_or n (2 ^ k) a ∙ ap (bit_or (bit n a)) pow ∙ or_one (n / 2 ^ a) in
-    ap (λ x. eqb x 0) on ∙ sym (ap (λ (t : Bool). not t && uses n a) (eq-eqb a k z)))
-    (λ (ne : a ≡ k → ⊥).
-    let same : bit (bit_or n (2 ^ k)) a ≡ bit n a = bit_of_or n (2 ^ k) a ∙ ap (bit_or (bit n a)) (pow_other k a ne) ∙ or_zero_r (bit n a) in
-    ap (λ x. eqb x 0) same ∙ sym (ap (λ (t : Bool). not t && uses n a) (ne_eqb a k ne)))
+    (λ (z : a ≡ k). ap (λ i. uses (bit_or n (1 * 2 ^ k % 2 ^ 64)) i) z ∙ ap (λ x. eqb x 0) (bit_at_set_same w64 n k lk) ∙ sym (ap (λ (t : Bool). not t && uses n a) (eq-eqb a k z)))
+    (λ (ne : a ≡ k → ⊥). ap (λ x. eqb x 0) (bit_at_set_other w64 n k lk a ne) ∙ sym (ap (λ (t : Bool). not t && uses n a) (ne_eqb a k ne)))
     (cases_eq a k)
 
-and_at : (x y p q : ℕ) → x ≡ p → y ≡ q → eqb (bit_and p q) 0 ≡ (eqb p 0 || eqb q 0) → eqb (bit_and x y) 0 ≡ (eqb x 0 || eqb y 0)
-and_at x y p q ex ey h =
-    subst (λ (z : ℕ). eqb (bit_and z y) 0 ≡ (eqb z 0 || eqb y 0)) (sym ex) (subst (λ (z : ℕ). eqb (bit_and p z) 0 ≡ (eqb p 0 || eqb z 0)) (sym ey) h)
-
-and_bits : (x y : ℕ) → eqb (bit_and (x % 2) (y % 2)) 0 ≡ (eqb (x % 2) 0 || eqb (y % 2) 0)
-and_bits x y =
-    ⊎_elim
-    (λ (e : x % 2 ≡ 0). ⊎_elim (λ (f : y % 2 ≡ 0). and_at (x % 2) (y % 2) 0 0 e f refl) (λ (f : y % 2 ≡ 1). and_at (x % 2) (y % 2) 0 1 e f refl) (two y))
-    (λ (e : x % 2 ≡ 1). ⊎_elim (λ (f : y % 2 ≡ 0). and_at (x % 2) (y % 2) 1 0 e f refl) (λ (f : y % 2 ≡ 1). and_at (x % 2) (y % 2) 1 1 e f refl) (two y))
-    (two x)
+either_zero : (x y : ℕ) → eqb (min x y) 0 ≡ (eqb x 0 || eqb y 0)
+either_zero x y = grind (arith, nat_tests)
 
 pub uses_union : (m n a : ℕ) → uses (bit_and m n) a ≡ (uses m a || uses n a)
-uses_union m n a = ap (λ x. eqb x 0) (bit_of_and m n a) ∙ and_bits (m / 2 ^ a) (n / 2 ^ a)
-
--- every bit of 2 ^ k - 1 below k is 1
-ones_bit : (k a : ℕ) → a < k → bit (2 ^ k - 1) a ≡ 1
-ones_bit zero a l = absurd (omega arith)
-ones_bit (suc k) zero l = bit_zero (2 ^ suc k - 1) ∙ omega (arith, pow-suc 2 k, pow_pos k)
-ones_bit (suc k) (suc a) l =
-    let half : (2 ^ suc k - 1) / 2 ≡ 2 ^ k - 1 = omega (arith, pow-suc 2 k, pow_pos k) in
-    bit_suc (2 ^ suc k - 1) a ∙ ap (λ n. bit n a) half ∙ ones_bit k a (omega arith)
+uses_union m n a = ap (λ x. eqb x 0) (bit_at_and m n a) ∙ either_zero (bit_at m a) (bit_at n a)
 
 pub all_free : (a : ℕ) → a < 64 → uses 18446744073709551615 a ≡ false
-all_free a l = ap (λ x. eqb x 0) (ones_bit 64 a l)
+all_free a l = ap (λ x. eqb x 0) (bit_at_ones 64 a l)
 
--- the zeros below the lowest bit that is 1
-trailing_even : (k n : ℕ) → n % 2 ≡ 0 → count_trailing_zeros (suc k) n ≡ suc (count_trailing_zeros k (n / 2))
-unfolding count_trailing_zeros
-trailing_even k n e = ap (λ d. under d (count_trailing_zeros k (n / 2))) e
+pub lowest_some : (n : ℕ) (r : Colour) → n < 2 ^ 64 → r.number ≡ count_trailing_zeros 64 n → Lowest n (Some r)
+lowest_some n r ln e =
+    let some : 0 < n = ⊎_elim (λ (z : 0 < n). z) (λ (z : n ≤ 0). absurd (omega (arith, ap (count_trailing_zeros 64) (let y : n ≡ 0 = omega arith in y), trailing_of_zero 64, e, r.low))) (cases_lt 0 n) in
+    let bits = bit_at-trailing_zeros w64 n some ln in
+    record {
+      all = λ z. absurd (none_some (Some r) r z refl);
+      free = λ q z. let same : q.number ≡ count_trailing_zeros 64 n = cc in ap (λ i. uses n i) same ∙ ap (λ x. eqb x 0) bits.1;
+      below = λ q z a l. let same : q.number ≡ count_trailing_zeros 64 n = cc in ap (λ x. eqb x 0) (bits.2 a (rw same at l));
+    }
 
-trailing_odd : (k n : ℕ) → n % 2 ≡ 1 → count_trailing_zeros (suc k) n ≡ 0
-unfolding count_trailing_zeros
-trailing_odd k n e = ap (λ d. under d (count_trailing_zeros k (n / 2))) e
+pub lowest_none : (n : ℕ) → n < 2 ^ 64 → 64 ≤ count_trailing_zeros 64 n → Lowest n None
+lowest_none n ln l =
+    let none : n ≡ 0 = ⊎_elim (λ (z : 0 < n). absurd (omega (arith, (bit_at-trailing_zeros w64 n z ln).0))) (λ (z : n ≤ 0). omega arith) (cases_lt 0 n) in
+    record {
+      all = λ z a la. ap (λ x. uses x a) none ∙ ap (λ x. eqb x 0) (bit_at-zero a);
+      free = λ r z. absurd (none_some None r refl z);
+      below = λ r z. absurd (none_some None r refl z);
+    }
 
-trailing_below : (k n a : ℕ) → a < count_trailing_zeros k n → bit n a ≡ 0
-unfolding count_trailing_zeros
-trailing_below zero n a l = absurd (omega arith)
-trailing_below (suc k) n zero l =
-    ⊎_elim (λ (z : n % 2 ≡ 0). bit_zero n ∙ z) (λ (z : n % 2 ≡ 1). absurd (omega (arith, trailing_odd k n z))) (two n)
-trailing_below (suc k) n (suc a) l =
-    ⊎_elim (λ (z : n % 2 ≡ 0). bit_suc n a ∙ trailing_below k (n / 2) a (omega (arith, trailing_even k n z))) (λ (z : n % 2 ≡ 1). absurd (omega (arith, trailing_odd k n z))) (two n)
-
-trailing_at : (k n : ℕ) → count_trailing_zeros k n < k → bit n (count_trailing_zeros k n) ≡ 1
-trailing_at zero n l = absurd (omega arith)
-trailing_at (suc k) n l =
-    ⊎_elim
-    (λ (z : n % 2 ≡ 0). ap (bit n) (trailing_even k n z) ∙ bit_suc n (count_trailing_zeros k (n / 2)) ∙ trailing_at k (n / 2) (omega (arith, trailing_even k n z)))
-    (λ (z : n % 2 ≡ 1). ap (bit n) (trailing_odd k n z) ∙ bit_zero n ∙ z)
-    (two n)
-
-pub uses_below : (n a : ℕ) → a < count_trailing_zeros 64 n → uses n a ≡ true
-uses_below n a l = ap (λ x. eqb x 0) (trailing_below 64 n a l)
-
-pub lowest_free : (n : ℕ) → count_trailing_zeros 64 n < 64 → uses n (count_trailing_zeros 64 n) ≡ false
-lowest_free n l = ap (λ x. eqb x 0) (trailing_at 64 n l)
+pub ruleset lowest = (lowest_some, lowest_none)

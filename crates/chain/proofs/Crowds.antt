@@ -1,7 +1,20 @@
 -- At an end where a line has no colour, fewer colours are in use than lines stand there.
-use Rattle.std.proofs.Common.{◌≡◌, ℕ, zero, suc, ◌<◌, ◌≤◌, Bool, true, false, ◌&&◌, eqb, ltb, Some, None, Option, ap, ◌∙◌, arith}
+use Rattle.std.proofs.Common.{◌≡◌, ℕ, zero, suc, ◌<◌, ◌≤◌, Bool, true, false, ◌&&◌, eqb, ltb, cond, List, length, get_or, IsSome, is_some, Some, None, Option, sym, ap, ⊎_elim, ◌∙◌, arith}
 use Rattle.std.proofs.lemmas.Bool.{lt-ltb, le-ltb, ltb-true, eq-eqb, and_from, and_parts, and_right, false≢true}
+use Rattle.lines.specs.declared.line.Line.{Line}
+use Rattle.lines.specs.Lines.{on, ends, end_at, DegreesWithin}
+use Rattle.lines.proofs.Places.{length_ends}
 use Rattle.lines.proofs.Count.{cnt, cnt_strict}
+use Rattle.lines.proofs.Pigeon.{count_by_cnt}
+use Rattle.chain.specs.declared.colour.Colour.{Colour}
+use Rattle.chain.specs.declared.end.End.{End}
+use Rattle.chain.specs.declared.seats.Seats.{Seats}
+use Rattle.chain.specs.declared.colouring.Colouring.{Colouring}
+use Rattle.chain.specs.Palettes.{uses, Lowest}
+use Rattle.chain.specs.Seats.{line_in}
+use Rattle.chain.specs.Colourings.{Consistent, Stands, Bare, FreeAt, colour_at, seats_at}
+use Rattle.chain.proofs.Paths.{none_or_some}
+use Rattle.chain.proofs.Laws.{unused_free}
 
 -- a colour below a
 abbrev below : Option ℕ → ℕ → Bool
@@ -37,3 +50,30 @@ module _ (e : ℕ → ℕ) (c : ℕ → Option ℕ) (n v : ℕ) where
   crowded_end r i l ei ci h =
       let off : stands r i ≡ false = and_right (eqb (e i) v) (below (c i) r) (ap (λ (o : Option ℕ). below o r) ci) in
       omega (arith, crowd r h, cnt_strict (stands r) (λ k. eqb (e k) v) n i (λ j m t. (and_parts (eqb (e j) v) (below (c j) r) t).0) l off (eq-eqb (e i) v ei))
+
+-- the line k has no colour at the end e, where the lines are t
+module _ (ls : List Line) (w : Colouring) (e : End) (k c : ℕ) (t : Seats) (is : t ≡ seats_at w e.side e.number) (h : Consistent (ends ls) w) (within : k < length ls) (bare : Bare w k) (stands : Stands (ends ls) k e)
+    (low : c ≤ 64) (degrees : DegreesWithin c (ends ls)) where
+  -- so fewer colours than c are in use there
+  few : (r : ℕ) → r ≤ 64 → ((b : ℕ) → b < r → uses t.palette.free b ≡ true) → r < c
+  unfolding Consistent Bare Stands
+  few r lr used =
+      let ps = ends ls in
+      let crowd : r < cnt (λ j. eqb (end_at ps e.side j) e.number) (length ps) =
+      crowded_end (end_at ps e.side) (colour_at w) (length ps) e.number r k (rw (length_ends ls) within) (sym stands) bare
+      (λ b l.
+      let j = get_or t.lines b 0 in
+      let q = h.agrees.line e.side e.number b j e.inside (omega arith) (ap (λ (s : Seats). line_in s b) (sym is) ∙ ap (λ (t : Bool). cond t (Some j) None) (used b l)) in
+      (j, h.within j b q.1, q.0, q.1)) in
+      omega (arith, crowd, count_by_cnt (λ p. eqb (on e.side p) e.number) ps (0, 0), degrees e.side e.number)
+
+  module _ (o : Option Colour) (m : Lowest t.palette.free o) where
+    pub free_some : IsSome o
+    free_some =
+        ⊎_elim (λ (z : o ≡ None). absurd (omega (arith, few 64 (omega arith) (m.all z)))) (λ q. ap (λ (p : Option Colour). is_some p) q.1) (none_or_some o)
+
+    pub free_below : (r : Colour) → o ≡ Some r → r.number < c
+    free_below r z = few r.number (omega (arith, r.low)) (m.below r z)
+
+    pub free_here : (r : Colour) → o ≡ Some r → FreeAt (ends ls) w e r
+    free_here r z = unused_free (ends ls) w e r t h is (m.free r z)

@@ -1,8 +1,8 @@
 -- Lemmas about the colours of lines and the tables that go with them.
 mod Bits
 mod Crowds
+mod Laws
 mod Moving
 mod Paths
-mod Slots
 mod Steps
 mod Tables

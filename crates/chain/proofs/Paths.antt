@@ -1,21 +1,17 @@
 -- The step of an exchange of two colours along a path.
-use Rattle.std.proofs.Common.{◌≡◌, ℕ, false, ◌⊎◌, is_some, Some, None, Option, sym, refl, ap, ◌∙◌, inl, inr, ⊎_elim, arith}
-use Rattle.std.proofs.lemmas.Bool.{cases_eq, true≢false}
+use Rattle.std.proofs.Common.{◌≡◌, ℕ, ◌⊎◌, Some, None, Option, sym, refl, ap, ◌∙◌, inl, inr, ⊎_elim}
+use Rattle.std.proofs.lemmas.Bool.{cases_eq}
 use Rattle.lines.specs.declared.line.Side.{Side}
 use Rattle.lines.specs.declared.line.Side.TheVariants.{Left, Right}
 use Rattle.lines.specs.Lines.{other}
 use Rattle.chain.specs.Exchanges.{Ends, Colours, Free, Apart, Among, Swap, Painted}
 
-pub none_some : (o : Option ℕ) (a : ℕ) → o ≡ None → o ≡ Some a → ⊥
-none_some o a p q = let z : ◌≡◌ {A = ℕ} 0 1 = cc in omega arith
+pub none_some : {A : Type 0} (o : Option A) (a : A) → o ≡ None → o ≡ Some a → ⊥
+none_some o a p q = cc
 
-pub none_or_some : (o : Option ℕ) → (o ≡ None) ⊎ ((a : ℕ) × (o ≡ Some a))
+pub none_or_some : {A : Type 0} (o : Option A) → (o ≡ None) ⊎ ((a : A) × (o ≡ Some a))
 none_or_some (Some a) = inr (a, refl)
 none_or_some None = inl refl
-
-pub is_none : (o : Option ℕ) → is_some o ≡ false → o ≡ None
-is_none (Some a) e = absurd (true≢false e)
-is_none None e = refl
 
 pub some_same : (o : Option ℕ) (a b : ℕ) → o ≡ Some a → o ≡ Some b → a ≡ b
 some_same o a b p q = cc
@@ -116,8 +112,3 @@ swap_bare e c d s v a b k r bare =
 pub free_after : (e : Ends) (c d : Colours) (i a b : ℕ) → Free e c Left (e Left i) a → Swap e c d Right (e Right i) a b → (t : Side) → Free e d t (e t i) a
 free_after e c d i a b free r Left = r.there (e Left i) free
 free_after e c d i a b free r Right = r.frees
-
--- a colour that is free at the left end l and at the right end r of the line k
-pub free_two : (e : Ends) (c : Colours) (k a l r : ℕ) → l ≡ e Left k → r ≡ e Right k → Free e c Left l a → Free e c Right r a → (t : Side) → Free e c t (e t k) a
-free_two e c k a l r el er fl fr Left = rw (← el) fl
-free_two e c k a l r el er fl fr Right = rw (← er) fr

@@ -1,5 +1,5 @@
 -- Lines with colours, some without: what is free at an end, and the exchange of two colours along a path.
-use Rattle.std.specs.Prelude.{◌≡◌, ℕ, ◌<◌, Bool, ◌⊎◌, is_some, Some, Option, ◌≢◌}
+use Rattle.std.specs.Prelude.{◌≡◌, ℕ, ◌<◌, ◌⊎◌, Some, Option, ◌≢◌}
 use Rattle.lines.specs.declared.line.Side.{Side}
 use Rattle.lines.specs.Lines.{other}
 
@@ -36,12 +36,11 @@ pub record Swap (e : Ends) (c d : Colours) (s : Side) (v a b : ℕ) : Type 0 whe
   pub kept : (k : ℕ) → (d k ≡ c k) ⊎ (Among a b (c k) × Among a b (d k))
 
 -- u is t with y at the colour a of the end v
-pub record Changed {A : Type 0} (t u : Side → ℕ → ℕ → A) (s : Side) (v a : ℕ) (y : A) : Type 0 where
+pub record Changed (t u : Side → ℕ → ℕ → Option ℕ) (s : Side) (v a : ℕ) (y : Option ℕ) : Type 0 where
   pub new : u s v a ≡ y
-  pub old : (r : Side) (x b : ℕ) → x < 512 → b < 64 → (r ≡ s → x ≡ v → b ≢ a) → u r x b ≡ t r x b
+  pub old : (r : Side) (x b : ℕ) → x < 512 → (r ≡ s → x ≡ v → b ≢ a) → u r x b ≡ t r x b
 
--- a table t of the line that has a colour at an end, and the colours u in use there, tell the same as the colours c
-pub record Agrees (e : Ends) (c : Colours) (t : Side → ℕ → ℕ → Option ℕ) (u : Side → ℕ → ℕ → Bool) : Type 0 where
+-- a table t of the line that has a colour at an end tells the same as the colours c
+pub record Agrees (e : Ends) (c : Colours) (t : Side → ℕ → ℕ → Option ℕ) : Type 0 where
   pub seat : (s : Side) (k a : ℕ) → c k ≡ Some a → t s (e s k) a ≡ Some k
   pub line : (s : Side) (v a k : ℕ) → v < 512 → a < 64 → t s v a ≡ Some k → (e s k ≡ v) × (c k ≡ Some a)
-  pub used : (s : Side) (v a : ℕ) → v < 512 → a < 64 → u s v a ≡ is_some (t s v a)

@@ -1,16 +1,18 @@
 // A line loses its colour or gets one, and two colours change places along a path.
-ghost use Rattle.std.specs.Prelude.{◌≡◌, ◌<◌, ◌≤◌, length, Some, None};
-ghost use Rattle.lines.specs.Lines.{ends, Inside};
+ghost use Rattle.std.specs.Prelude.{◌≡◌, ◌<◌, length, Some, None};
+ghost use Rattle.lines.specs.Lines.{ends};
 ghost use Rattle.chain.specs.Colourings.{colour_at, coloured, Consistent, Bare, FreeAt, FreeFor, Stored, Repainted, Exchanged};
 
+use crate::colour::Colour;
 use crate::colouring::Colouring;
-use crate::laws::{exchanging, laying, lifting};
-use crate::seats::end_of;
-use lines::line::{Line, Side};
+use crate::end::End;
+use crate::seating::end_of;
+use lines::bounded::Bounded;
+use lines::line::Side;
 
 impl Colouring {
     // Writes the colour of the line k, or none.
-    fn paint(&mut self, k: usize, colour: Option<u8>)
+    pub(crate) fn paint(&mut self, k: usize, colour: Option<Colour>)
         requires { k < 1024 }
         ensures { Stored self.old self.new k colour }
     {
@@ -18,65 +20,54 @@ impl Colouring {
     }
 
     // Takes the colour of the line k away.
-    pub(crate) fn lift(&mut self, lines: &[Line], k: usize, colour: u8)
-        requires few { length lines.now ≤ 1024 }
-        requires inside { Inside (ends lines.now) }
-        requires consistent { Consistent (ends lines.now) self.old }
-        requires within { k < length lines.now }
-        requires low { colour < 64 }
-        requires has { colour_at self.old k ≡ Some colour }
-        ensures consistent { Consistent (ends lines.now) self.new }
+    #[tactic(auto, using(crate::proofs::Laws::lifting))]
+    fn lift(&mut self, bounded: Bounded<'_>, k: usize, colour: Colour)
+        requires consistent { Consistent (ends bounded.lines.now) self.old }
+        requires within { k < length bounded.lines.now }
+        requires has { colour_at self.old k ≡ Some colour.number }
+        ensures consistent { Consistent (ends bounded.entry.lines.now) self.new }
         ensures repainted { Repainted self.old self.new k None }
-        ensures freed { FreeFor (ends lines.now) self.new k colour }
+        ensures freed { FreeFor (ends bounded.entry.lines.now) self.new k colour }
         ensures fewer { coloured self.new < coloured self.old }
     {
-        lifting();
-        let left = end_of(lines, k, Side::Left);
-        let right = end_of(lines, k, Side::Right);
-        self.unseat(Side::Left, left, colour);
-        self.unseat(Side::Right, right, colour);
+        let left = end_of(bounded, k, Side::Left);
+        let right = end_of(bounded, k, Side::Right);
+        self.unseat(left, colour);
+        self.unseat(right, colour);
         self.paint(k, None);
     }
 
     // Gives the line k, which has no colour, one that is free at both of its ends.
-    pub(crate) fn lay(&mut self, lines: &[Line], k: usize, colour: u8)
-        requires few { length lines.now ≤ 1024 }
-        requires inside { Inside (ends lines.now) }
-        requires consistent { Consistent (ends lines.now) self.old }
-        requires within { k < length lines.now }
-        requires low { colour < 64 }
+    #[tactic(auto, using(crate::proofs::Laws::laying))]
+    pub(crate) fn lay(&mut self, bounded: Bounded<'_>, k: usize, colour: Colour)
+        requires consistent { Consistent (ends bounded.lines.now) self.old }
+        requires within { k < length bounded.lines.now }
         requires bare { Bare self.old k }
-        requires free { FreeFor (ends lines.now) self.old k colour }
-        ensures consistent { Consistent (ends lines.now) self.new }
+        requires free { FreeFor (ends bounded.lines.now) self.old k colour }
+        ensures consistent { Consistent (ends bounded.entry.lines.now) self.new }
         ensures repainted { Repainted self.old self.new k (Some colour) }
     {
-        laying();
-        let left = end_of(lines, k, Side::Left);
-        let right = end_of(lines, k, Side::Right);
-        self.seat(Side::Left, left, colour, k);
-        self.seat(Side::Right, right, colour, k);
+        let left = end_of(bounded, k, Side::Left);
+        let right = end_of(bounded, k, Side::Right);
+        self.seat(left, colour, k);
+        self.seat(right, colour, k);
         self.paint(k, Some(colour));
     }
 
     // Exchanges a and b along the path of these colours that begins at the end, so that a is free there.
-    pub(crate) fn swap(&mut self, lines: &[Line], side: Side, end: u16, a: u8, b: u8)
-        requires few { length lines.now ≤ 1024 }
-        requires inside { Inside (ends lines.now) }
-        requires consistent { Consistent (ends lines.now) self.old }
-        requires end { end < 512 }
-        requires low_a { a < 64 }
-        requires low_b { b < 64 }
-        requires free { FreeAt (ends lines.now) self.old side end b }
-        ensures consistent { Consistent (ends lines.now) self.new }
-        ensures exchanged { Exchanged (ends lines.now) self.old self.new side end a b }
+    #[tactic(auto, using(crate::proofs::Laws::exchanging))]
+    pub(crate) fn swap(&mut self, bounded: Bounded<'_>, end: End, a: Colour, b: Colour)
+        requires consistent { Consistent (ends bounded.lines.now) self.old }
+        requires free { FreeAt (ends bounded.lines.now) self.old end b }
+        ensures consistent { Consistent (ends bounded.entry.lines.now) self.new }
+        ensures exchanged { Exchanged (ends bounded.entry.lines.now) self.old self.new end a b }
     {
-        exchanging();
-        if let Some(k) = self.find(lines, side, end, a) {
-            let across = side.opposite();
-            let far = end_of(lines, k, across);
-            self.lift(lines, k, a);
-            self.swap(lines, across, far, b, a);
-            self.lay(lines, k, b);
+        if let Some(k) = self.find(bounded, end, a) {
+            let across = end.side.opposite();
+            let far = end_of(bounded, k, across);
+            self.lift(bounded, k, a);
+            self.swap(bounded, far, b, a);
+            self.lay(bounded, k, b);
         }
     }
 }

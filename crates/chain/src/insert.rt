@@ -1,119 +1,123 @@
-// The lines get their colours one at a time, and the colours are moved into the lines at the end.
+// The lines get their colours one at a time. At the end these are written into the lines, and the work space is
+// emptied.
 ghost use Rattle.std.specs.Prelude.{◌≡◌, ◌+◌, ◌<◌, ◌≤◌, length, IfSome};
-ghost use Rattle.lines.specs.Lines.{ends, end_at, Inside, DegreesWithin};
+ghost use Rattle.lines.specs.Lines.{ends, Inside, DegreesWithin};
 ghost use Rattle.lines.specs.Arrangers.{Arranged};
 ghost use Rattle.lines.specs.declared.line.Side.TheVariants.{Left, Right};
-ghost use Rattle.chain.specs.Colourings.{Uncoloured, Unused, Consistent, Bare, FreeAt, Shared, Partly, Moved};
+ghost use Rattle.chain.specs.Colourings.{Empty, Consistent, Stands, Bare, FreeAt, Shared, Partly, Copied};
 
+use crate::colour::Colour;
 use crate::colouring::Colouring;
-use crate::laws::{inserting, starting};
-use crate::seats::{end_of, place};
+use crate::end::End;
+use crate::seating::end_of;
+use crate::task::Task;
+use lines::bounded::Bounded;
 use lines::line::{Line, Side};
 
 impl Colouring {
-    // A colour below c that no line has at the end, where the line k stands without a colour.
-    fn free_colour(&self, lines: &[Line], side: Side, end: u16, k: usize, c: u8) -> u8
-        requires consistent { Consistent (ends lines.now) self.now }
-        requires degrees { DegreesWithin c (ends lines.now) }
-        requires low { c ≤ 64 }
-        requires within { k < length lines.now }
+    // One of the colours of the task that no line has at the end, where the line k stands without a colour.
+    fn free_colour(&self, task: Task<'_>, end: End, k: usize) -> Colour
+        requires consistent { Consistent (ends task.bounded.lines.now) self.now }
+        requires within { k < length task.bounded.lines.now }
         requires bare { Bare self.now k }
-        requires stands { end ≡ end_at (ends lines.now) side k }
-        requires end { end < 512 }
-        ensures below { result < c }
-        ensures free { FreeAt (ends lines.now) self.now side end result }
+        requires stands { Stands (ends task.bounded.lines.now) k end }
+        ensures below { result.number < task.entry.count }
+        ensures free { FreeAt (ends task.entry.bounded.lines.now) self.now end result }
     {
-        self.palettes[place(side, end)].lowest_free()
+        self.at(end).palette.lowest_free().unwrap()
     }
 
-    // A colour below c that is free at both ends of the line k, where the palettes show one.
-    fn shared_colour(&self, lines: &[Line], left: u16, right: u16, k: usize, c: u8) -> Option<u8>
-        requires consistent { Consistent (ends lines.now) self.now }
-        requires low { c ≤ 64 }
-        requires left_stands { left ≡ end_at (ends lines.now) Left k }
-        requires left { left < 512 }
-        requires right_stands { right ≡ end_at (ends lines.now) Right k }
-        requires right { right < 512 }
-        ensures { IfSome result (λ a. Shared (ends lines.now) self.now k c a) }
+    // One of the colours of the task that is free at both ends of the line k, where the palettes show one.
+    fn shared_colour(&self, task: Task<'_>, left: End, right: End, k: usize) -> Option<Colour>
+        requires consistent { Consistent (ends task.bounded.lines.now) self.now }
+        requires left { left.side ≡ Left }
+        requires right { right.side ≡ Right }
+        requires left_stands { Stands (ends task.bounded.lines.now) k left }
+        requires right_stands { Stands (ends task.bounded.lines.now) k right }
+        ensures { IfSome result (λ a. Shared (ends task.entry.bounded.lines.now) self.now k task.entry.count a) }
     {
-        let lefts = self.palettes[place(Side::Left, left)];
-        let rights = self.palettes[place(Side::Right, right)];
-        let colour = lefts.union(rights).lowest_free();
-        if colour < c { Some(colour) } else { None }
+        let lefts = self.at(left).palette;
+        let rights = self.at(right).palette;
+        lefts
+            .union(rights)
+            .lowest_free()
+            .filter(|colour| colour.number < task.count)
     }
 
     // Colours the line i, the first that has no colour.
-    fn insert(&mut self, lines: &[Line], i: usize, c: u8)
-        requires few { length lines.now ≤ 1024 }
-        requires inside { Inside (ends lines.now) }
-        requires consistent { Consistent (ends lines.now) self.old }
-        requires degrees { DegreesWithin c (ends lines.now) }
-        requires low { c ≤ 64 }
-        requires within { i < length lines.now }
-        requires partly { Partly c i self.old }
-        ensures consistent { Consistent (ends lines.now) self.new }
-        ensures partly { Partly c (i + 1) self.new }
+    #[tactic(auto, using(crate::proofs::Laws::inserting))]
+    fn insert(&mut self, task: Task<'_>, i: usize)
+        requires consistent { Consistent (ends task.bounded.lines.now) self.old }
+        requires within { i < length task.bounded.lines.now }
+        requires partly { Partly task.count i self.old }
+        ensures consistent { Consistent (ends task.entry.bounded.lines.now) self.new }
+        ensures partly { Partly task.entry.count (i + 1) self.new }
     {
-        inserting();
-        let left = end_of(lines, i, Side::Left);
-        let right = end_of(lines, i, Side::Right);
-        if let Some(a) = self.shared_colour(lines, left, right, i, c) {
-            self.lay(lines, i, a);
+        let left = end_of(task.bounded, i, Side::Left);
+        let right = end_of(task.bounded, i, Side::Right);
+        if let Some(a) = self.shared_colour(task, left, right, i) {
+            self.lay(task.bounded, i, a);
         } else {
-            let a = self.free_colour(lines, Side::Left, left, i, c);
-            let b = self.free_colour(lines, Side::Right, right, i, c);
-            self.swap(lines, Side::Right, right, a, b);
-            self.lay(lines, i, a);
+            let a = self.free_colour(task, left, i);
+            let b = self.free_colour(task, right, i);
+            self.swap(task.bounded, right, a, b);
+            self.lay(task.bounded, i, a);
         }
     }
 
-    // Colours all lines, where no end stands in more than c of them.
-    fn colour_all(&mut self, lines: &[Line], c: u8)
-        requires few { length lines.now ≤ 1024 }
-        requires inside { Inside (ends lines.now) }
-        requires degrees { DegreesWithin c (ends lines.now) }
-        requires low { c ≤ 64 }
-        requires uncoloured { Uncoloured self.old }
-        requires unused { Unused self.old }
-        ensures consistent { Consistent (ends lines.now) self.new }
-        ensures partly { Partly c (length lines.now) self.new }
+    // Colours all lines. An index is the number by which the work space knows a line.
+    #[tactic(auto, using(crate::proofs::Laws::starting))]
+    fn colour_all(&mut self, task: Task<'_>)
+        requires { Empty self.old }
+        ensures consistent { Consistent (ends task.entry.bounded.lines.now) self.new }
+        ensures partly { Partly task.entry.count (length task.entry.bounded.lines.now) self.new }
     {
-        starting();
-        for i in 0..lines.len() {
-            self.insert(lines, i, c);
+        for i in 0..task.bounded.lines.len() {
+            self.insert(task, i);
         }
     }
 
-    // Moves the colours into the lines, so that none is left here.
-    fn write_back(&mut self, lines: &mut [Line])
-        requires few { length lines.old ≤ 1024 }
-        requires inside { Inside (ends lines.old) }
-        requires consistent { Consistent (ends lines.old) self.old }
+    // Writes the colours into the lines. They are read by number: of lines written through a `zip` nothing would be
+    // known.
+    fn write(&self, lines: &mut [Line])
+        requires { length lines.old ≤ 1024 }
         ensures ends { ends lines.new ≡ ends lines.old }
-        ensures consistent { Consistent (ends lines.old) self.new }
-        ensures moved { Moved self.old self.new (length lines.old) lines.new }
+        ensures copied { Copied self.now (length lines.old) lines.new }
     {
-        for k in 0..lines.len() {
+        for (k, line) in lines.iter_mut().enumerate() {
             if let Some(colour) = self.colours[k] {
-                self.lift(lines, k, colour);
-                lines[k].colour = colour;
+                line.colour = colour.number;
             }
         }
     }
 
+    // Takes the colours of all lines away, by their numbers.
+    #[tactic(auto, using(crate::proofs::Moving::clearing))]
+    fn clear(&mut self, bounded: Bounded<'_>)
+        requires { Consistent (ends bounded.lines.now) self.old }
+        ensures { Empty self.new }
+    {
+        for k in 0..bounded.lines.len() {
+            self.vacate(end_of(bounded, k, Side::Left));
+            self.vacate(end_of(bounded, k, Side::Right));
+            self.paint(k, None);
+        }
+    }
+
     // Gives the lines a proper edge colouring with c colours, where no end stands in more than c lines.
+    #[tactic(auto, using(crate::proofs::Moving::arranged))]
     pub(crate) fn colour(&mut self, lines: &mut [Line], c: u8)
         requires few { length lines.old ≤ 1024 }
         requires inside { Inside (ends lines.old) }
         requires degrees { DegreesWithin c (ends lines.old) }
         requires low { c ≤ 64 }
-        requires uncoloured { Uncoloured self.old }
-        requires unused { Unused self.old }
+        requires empty { Empty self.old }
         ensures arranged { Arranged c lines.old lines.new }
-        ensures uncoloured { Uncoloured self.new }
-        ensures unused { Unused self.new }
+        ensures empty { Empty self.new }
     {
-        self.colour_all(lines, c);
-        self.write_back(lines);
+        let bounded = Bounded { lines: &*lines };
+        self.colour_all(Task { bounded, count: c });
+        self.write(lines);
+        self.clear(Bounded { lines: &*lines });
     }
 }

@@ -1,19 +1,23 @@
 // The chain arranger. It gives the lines colours one at a time; where the two ends of a line have no free colour in
 // common, two colours change places along a path.
 //
+//   colour      one of the 64 colours
+//   end         one of the 512 ends of a side
 //   palette     which colours are in use at an end
-//   colouring   the work space: colours by line, and tables by end
+//   seats       which line has which colour at an end
+//   colouring   the work space: colours by line, and seats by end
 //   empty       the work space before the first line
-//   seats       reading and writing the tables at an end
+//   seating     reading and writing the work space at an end
+//   task        what is to be coloured
 //   exchange    a line loses its colour or gets one; two colours change places along a path
-//   insert      the lines get their colours, which are moved into them at the end
-//   laws        facts on which the others call
+//   insert      the lines get their colours, which are written into them at the end
 #![tactic(auto)]
 
 ghost use Rattle.std.specs.Prelude.{◌≡◌, ◌^◌, ◌≤◌, IfOk, nat_le};
 ghost use Rattle.chain.specs.Served.{chain_serves};
-ghost use Rattle.chain.specs.Colourings.{Uncoloured, Unused};
-ghost use Rattle.std.proofs.Common.{pow_pos, pow_mono, rules, arith};
+ghost use Rattle.chain.specs.Colourings.{Empty};
+ghost use Rattle.std.proofs.Props.{props};
+ghost use Rattle.std.proofs.Common.{pow_pos, pow_mono, rules};
 ghost use Rattle.std.proofs.lemmas.Bool.{and_from, le-leb};
 
 use crate::colouring::Colouring;
@@ -23,13 +27,16 @@ use lines::line::Line;
 use lines::refusal::ArrangeRefusal;
 use std::alloc::{AllocError, Global};
 
+mod colour;
 mod colouring;
 mod empty;
+mod end;
 mod exchange;
 mod insert;
-mod laws;
 mod palette;
+mod seating;
 mod seats;
+mod task;
 
 // Serves 1 to 64 colours. All memory is taken when it is made; the work space is empty between calls.
 #[derive(Drop)]
@@ -38,15 +45,14 @@ pub struct Chain {
     colouring: Colouring,
     meter: u32,
     ghost stops: { meter ≤ 4294967295 },
-    ghost uncoloured: { Uncoloured colouring },
-    ghost unused: { Unused colouring },
+    ghost empty: { Empty colouring } by { Prim.hlevel props },
 }
 
 // Whether a count of colours is served.
 fn is_served(c: u8) -> bool
     ensures { result ≡ chain_serves c }
 {
-    c >= 1 && c <= 64
+    (1..=64).contains(&c)
 }
 
 impl Chain {
@@ -69,13 +75,13 @@ impl Arranger for Chain {
 
     ghost shows = { λ a. a.meter };
 
-    ghost within = { first_of (Prim.search rules, Prim.grind (arith, Self.row.coded.inj)) };
+    ghost within = { Prim.search rules };
 
     ghost powers = { λ k l.
         let top : 2 ^ k ≤ 64 = pow_mono {j = 6} l in
         and_from (nat_le 1 (2 ^ k)) (nat_le (2 ^ k) 64) (le-leb 1 (2 ^ k) (pow_pos k)) (le-leb (2 ^ k) 64 top) };
 
-    ghost stops = { first_of (Prim.search rules, Prim.grind (arith, Self.row.coded.inj)) };
+    ghost stops = { λ a. a.stops };
 
     fn serves(&self, c: u8) -> bool {
         is_served(c)

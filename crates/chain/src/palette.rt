@@ -1,6 +1,8 @@
 // Which of the 64 colours are in use at an end.
-ghost use Rattle.std.specs.Prelude.{◌≡◌, ℕ, ◌<◌, ◌≤◌, true, false, not, ◌&&◌, ◌||◌, ◌==◌};
-ghost use Rattle.chain.specs.Palettes.{uses};
+ghost use Rattle.std.specs.Prelude.{◌≡◌, ℕ, ◌<◌, false, not, ◌&&◌, ◌||◌, ◌==◌};
+ghost use Rattle.chain.specs.Palettes.{uses, Lowest};
+
+use crate::colour::Colour;
 
 // One bit for each colour: 1 where it is free, 0 where it is in use.
 #[derive(Clone, Copy)]
@@ -10,6 +12,7 @@ pub struct Palette {
 
 impl Palette {
     // All 64 colours are free.
+    #[tactic(auto, using(crate::proofs::Bits::all_free))]
     pub(crate) fn new() -> Palette
         ensures { (a : ℕ) → a < 64 → uses result.free a ≡ false }
     {
@@ -17,44 +20,47 @@ impl Palette {
     }
 
     // Whether the colour is in use.
-    pub(crate) fn has(self, colour: u8) -> bool
-        requires { colour < 64 }
-        ensures { result ≡ uses self.free colour }
+    pub(crate) fn has(self, colour: Colour) -> bool
+        ensures { result ≡ uses self.free colour.number }
     {
-        (self.free >> colour) % 2 == 0
+        (self.free >> colour.number) % 2 == 0
     }
 
-    // A free colour more is in use.
-    pub(crate) fn insert(self, colour: u8) -> Palette
-        requires low { colour < 64 }
-        requires free { uses self.free colour ≡ false }
-        ensures { (a : ℕ) → uses result.free a ≡ (a == colour || uses self.free a) }
+    // The colour is in use.
+    #[tactic(auto, using(crate::proofs::Bits::uses_insert))]
+    pub(crate) fn insert(self, colour: Colour) -> Palette
+        ensures { (a : ℕ) → uses result.free a ≡ (a == colour.number || uses self.free a) }
     {
         Palette {
-            free: self.free ^ (1 << colour),
+            free: self.free & !(1 << colour.number),
         }
     }
 
     // The colour is free again.
-    pub(crate) fn remove(self, colour: u8) -> Palette
-        requires low { colour < 64 }
-        ensures { (a : ℕ) → uses result.free a ≡ (not (a == colour) && uses self.free a) }
+    #[tactic(auto, using(crate::proofs::Bits::uses_remove))]
+    pub(crate) fn remove(self, colour: Colour) -> Palette
+        ensures { (a : ℕ) → uses result.free a ≡ (not (a == colour.number) && uses self.free a) }
     {
         Palette {
-            free: self.free | (1 << colour),
+            free: self.free | (1 << colour.number),
         }
     }
 
-    // The lowest free colour; 64 where all are in use.
-    pub(crate) fn lowest_free(self) -> u8
-        ensures bound { result ≤ 64 }
-        ensures below { (a : ℕ) → a < result → uses self.free a ≡ true }
-        ensures free { result < 64 → uses self.free result ≡ false }
+    // The lowest free colour, where one is free.
+    #[tactic(auto, using(crate::proofs::Bits::lowest))]
+    pub(crate) fn lowest_free(self) -> Option<Colour>
+        ensures { Lowest self.free result }
     {
-        self.free.trailing_zeros() as u8
+        let number = self.free.trailing_zeros() as u8;
+        if number < 64 {
+            Some(Colour { number })
+        } else {
+            None
+        }
     }
 
     // The palette in which only the colours that are free in both are free.
+    #[tactic(auto, using(crate::proofs::Bits::uses_union))]
     pub(crate) fn union(self, other: Palette) -> Palette
         ensures { (a : ℕ) → uses result.free a ≡ (uses self.free a || uses other.free a) }
     {

@@ -1,10 +1,10 @@
 -- What a caller is told of a refusal: its number, and the node that it is about, where it is about one.
-use Rattle.std.specs.Prelude.{◌≡◌, ℕ, true, List, is_ok, Some, None, Ok, Err, Option, Result}
+use Rattle.std.specs.Prelude.{ℕ, List, Some, None, Ok, Err, Option, Result}
 use Rattle.std.specs.Borrow.{Bor}
-use Rattle.crossbar.specs.declared.refusal.RouteError.{RouteError}
-use Rattle.crossbar.specs.declared.refusal.RouteError.TheVariants.{Refused, OutOfMemory}
+use Rattle.failure.specs.declared.Failure.{Failure}
 use Rattle.crossbar.specs.declared.refusal.RouteRefusal.{RouteRefusal}
 use Rattle.crossbar.specs.declared.refusal.RouteRefusal.TheVariants.{LineCount, NodeCount, Sender, Receiver, TopBits, NoWire, BytesEnd, Spine}
+use Rattle.failure.specs.Failures.{AnswersBy}
 
 pub record Refusal : Type 0 where
   pub number : ℕ
@@ -38,9 +38,6 @@ abbrev pub told_rest : {A : Type 0} → Result (A × Bor (List ℕ)) RouteRefusa
 told_rest (Ok a) = Ok (a.0, a.1.now)
 told_rest (Err e) = Err (refusal e)
 
--- the same of a call that asks for memory: what it answers, read by f, is what is due, and want of memory is answered
--- only where the walk or the header is not refused
-abbrev pub Answers : {A B : Type 0} → (A → B) → Result A RouteError → Result B Refusal → Type 0
-Answers f (Ok a) due = Ok (f a) ≡ due
-Answers f (Err (Refused e)) due = Err (refusal e) ≡ due
-Answers f (Err OutOfMemory) due = is_ok due ≡ true
+-- the same of a call that asks for memory: what it answers, read by f, is what is due
+abbrev pub Answers : {A B : Type 0} → (A → B) → Result A (Failure RouteRefusal) → Result B Refusal → Type 0
+Answers f r due = AnswersBy refusal f r due

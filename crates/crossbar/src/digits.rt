@@ -4,7 +4,7 @@ ghost use Rattle.crossbar.specs.Text.{hex_digit, hex, two_digits};
 
 use std::fmt;
 
-// The capital hexadecimal digit of the low four bits of a byte.
+// The capital hexadecimal digit of the low four bits of a byte. Of single digits the library has small letters only.
 pub fn hex_digit(value: u8) -> char
     ensures { result ≡ hex_digit value }
 {
@@ -23,10 +23,10 @@ pub struct Hex(pub u8);
 impl fmt::Display for Hex {
     ghost output = { λ b. Some (hex b.0) };
 
+    #[tactic(auto, using(crate::proofs::Padded::hex_padded))]
     fn fmt<W: fmt::Write>(&self, f: &mut fmt::Formatter<W>) -> fmt::Result {
-        let high = hex_digit(self.0 / 16);
-        let low = hex_digit(self.0);
-        write!(f, "{high}{low}")
+        let byte = self.0;
+        write!(f, "{byte:02X}")
     }
 }
 
@@ -37,9 +37,9 @@ pub struct TwoDigits(pub u8);
 impl fmt::Display for TwoDigits {
     ghost output = { λ v. Some (two_digits v.0) };
 
+    #[tactic(auto, using(crate::proofs::Padded::decimal_padded))]
     fn fmt<W: fmt::Write>(&self, f: &mut fmt::Formatter<W>) -> fmt::Result {
-        let tens = self.0 / 10;
-        let units = self.0 % 10;
-        write!(f, "{tens}{units}")
+        let number = self.0;
+        write!(f, "{number:02}")
     }
 }

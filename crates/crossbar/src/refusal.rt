@@ -1,9 +1,9 @@
 // Why a walk or a header is refused.
 ghost use Rattle.std.specs.Prelude.{◌≡◌};
 ghost use Rattle.crossbar.specs.Refusals.{refusal};
-ghost use Rattle.crossbar.specs.declared.refusal.RouteError.TheVariants.{Refused, OutOfMemory};
+ghost use Rattle.failure.specs.declared.Failure.TheVariants.{Refused};
 
-use std::alloc::AllocError;
+use failure::Failure;
 
 // Each case holds the values that are told with its number; specs/Refusals.antt has the numbers.
 #[derive(Clone, Copy, PartialEq, Eq, Debug)]
@@ -27,7 +27,7 @@ pub enum RouteRefusal {
 }
 
 impl RouteRefusal {
-    // The number that the documents give the refusal.
+    // The number that the documents give the refusal. Cases with values have no discriminant to read.
     pub fn number(self) -> u8
         ensures { result ≡ (refusal self).number }
     {
@@ -55,24 +55,13 @@ impl RouteRefusal {
 }
 
 // Why a route is not handed out: the walk is refused, or there is no memory for the list of wires.
-#[derive(Clone, Copy, PartialEq, Eq, Debug)]
-pub enum RouteError {
-    Refused(RouteRefusal),
-    OutOfMemory,
-}
+pub type RouteError = Failure<RouteRefusal>;
 
-impl From<RouteRefusal> for RouteError {
+// Written by hand, since a derived one would not tell which case it gives.
+impl From<RouteRefusal> for Failure<RouteRefusal> {
     ghost from_gives = { λ e r. r ≡ Refused e };
 
-    fn from(e: RouteRefusal) -> RouteError {
-        RouteError::Refused(e)
-    }
-}
-
-impl From<AllocError> for RouteError {
-    ghost from_gives = { λ _ r. r ≡ OutOfMemory };
-
-    fn from(_e: AllocError) -> RouteError {
-        RouteError::OutOfMemory
+    fn from(e: RouteRefusal) -> Failure<RouteRefusal> {
+        Failure::Refused(e)
     }
 }

@@ -49,9 +49,7 @@ impl fmt::Display for Hop {
     ghost output = { λ h. Some (hop_text h) };
 
     fn fmt<W: fmt::Write>(&self, f: &mut fmt::Formatter<W>) -> fmt::Result {
-        let wire = self.wire;
-        let end = self.end;
-        write!(f, "{wire} -> {end}")
+        write!(f, "{} -> {}", self.wire, self.end)
     }
 }
 

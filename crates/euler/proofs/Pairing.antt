@@ -1,12 +1,16 @@
 -- One line more is paired at its end.
-use Rattle.std.proofs.Common.{◌≡◌, ℕ, ◌+◌, ◌<◌, ◌≤◌, ◌≢◌, List, length, set, Some, None, Option, sym, refl, ap, ◌∙◌, ⊎_elim, arith}
+use Rattle.std.proofs.Common.{◌≡◌, ℕ, ◌+◌, ◌<◌, ◌≤◌, ◌≢◌, List, length, get_or, set, Some, None, Option, sym, refl, ap, ◌∙◌, ⊎_elim, arith}
 use Rattle.std.proofs.lemmas.List.{length-set, get_or-set_same, get_or-set_other}
 use Rattle.std.proofs.lemmas.Bool.{cases_eq}
-use Rattle.euler.specs.Pairs.{at, Empty, singles_after, partners_after, cnt, has, Alternates, Paired}
+use Rattle.lines.specs.declared.line.Side.{Side}
+use Rattle.lines.specs.declared.line.Side.TheVariants.{Left, Right}
+use Rattle.lines.specs.Lines.{other}
+use Rattle.euler.specs.declared.pairs.Partners.{Partners}
+use Rattle.euler.specs.Pairs.{at, Empty, nobody, partner_on, with_partner, partner, set_partner, singles_after, partners_after, cnt, has, Alternates, Paired}
 use Rattle.euler.proofs.Counting.{hit, miss_end, miss_colour}
 
 pub apart : {A : Type 0} {x : A} {o : Option A} → o ≡ None → o ≡ Some x → ⊥
-apart p q = let z : ◌≡◌ {A = ℕ} 0 1 = cc in omega arith
+apart p q = cc
 
 pub some_same : {A : Type 0} {x y : A} {o : Option A} → o ≡ Some x → o ≡ Some y → x ≡ y
 some_same p q = cc
@@ -31,16 +35,8 @@ module _ (e : ℕ → ℕ) (o p : ℕ → Option ℕ) (i : ℕ) (w : Pairing e o
   -- a line that is single
   pub pairing_single : o (e i) ≡ None → q (e i) ≡ Some i → r i ≡ None → ((k : ℕ) → k ≢ i → r k ≡ p k) → Pairing e q r (i + 1)
   pairing_single free new ri rest = record {
-    symmetric = λ k j l z.
-        ⊎_elim
-        (λ (y : k ≡ i). absurd (apart (ap r y ∙ ri) z))
-        (λ (ne : k ≢ i). let m = w.symmetric k j (omega arith) (sym (rest k ne) ∙ z) in (omega arith, m.1, rest j (omega arith) ∙ m.2))
-        (cases_eq k i);
-    singles = λ v k z.
-        ⊎_elim
-        (λ (y : v ≡ e i). let u : i ≡ k = some_same new (ap q (sym y) ∙ z) in (omega arith, ap r (sym u) ∙ ri, ap e (sym u) ∙ sym y))
-        (λ (ne : v ≢ e i). let m = w.singles v k (sym (old v ne) ∙ z) in (omega arith, rest k (omega arith) ∙ m.1, m.2))
-        (cases_eq v (e i));
+    symmetric = λ k j l z. let m = w.symmetric k j in let rk = rest k in let rj = rest j in grind arith;
+    singles = λ v k z. let m = w.singles v k in let rk = rest k in let ov = old v in grind arith;
     even = λ c alt v.
         let alt' : Alternates i p c = record { two = λ k l. alt.two k (omega arith); differ = λ k j l z. alt.differ k j (omega arith) (rest k (omega arith) ∙ z) } in
         ⊎_elim
@@ -60,20 +56,8 @@ module _ (e : ℕ → ℕ) (o p : ℕ → Option ℕ) (i : ℕ) (w : Pairing e o
       let here = w.singles (e i) j found in
       let alone : (k m : ℕ) → p k ≡ Some m → k ≢ j = λ k m z y. apart (ap p y ∙ here.1) z in
       record {
-        symmetric = λ k m l z.
-            ⊎_elim
-            (λ (y : k ≡ i). let u : j ≡ m = some_same ri (ap r (sym y) ∙ z) in (omega arith, omega arith, ap r (sym u) ∙ rj ∙ ap Some (sym y)))
-            (λ (ni : k ≢ i).
-            ⊎_elim
-            (λ (y : k ≡ j). let u : i ≡ m = some_same rj (ap r (sym y) ∙ z) in (omega arith, omega arith, ap r (sym u) ∙ ri ∙ ap Some (sym y)))
-            (λ (nj : k ≢ j). let m' = w.symmetric k m (omega arith) (sym (rest k ni nj) ∙ z) in (omega arith, m'.1, rest m (omega arith) (alone m k m'.2) ∙ m'.2))
-            (cases_eq k j))
-            (cases_eq k i);
-        singles = λ v k z.
-            ⊎_elim
-            (λ (y : v ≡ e i). absurd (apart (ap q y ∙ new) z))
-            (λ (ne : v ≢ e i). let m = w.singles v k (sym (old v ne) ∙ z) in (omega arith, rest k (omega arith) (λ y. ne (sym m.2 ∙ ap e y ∙ here.2)) ∙ m.1, m.2))
-            (cases_eq v (e i));
+        symmetric = λ k m l z. let s = w.symmetric k m in let rk = rest k in let rm = rest m in let ak = alone k m in grind arith;
+        singles = λ v k z. let m = w.singles v k in let rk = rest k in let ov = old v in grind arith;
         even = λ c alt v.
             let alt' : Alternates i p c = record { two = λ k l. alt.two k (omega arith); differ = λ k m l z. alt.differ k m (omega arith) (rest k (omega arith) (alone k m z) ∙ z) } in
             ⊎_elim
@@ -82,11 +66,11 @@ module _ (e : ℕ → ℕ) (o p : ℕ → Option ℕ) (i : ℕ) (w : Pairing e o
             let ci : c i < 2 = alt.two i (omega arith) in
             let cj : c j < 2 = alt.two j (omega arith) in
             let differ : c j ≢ c i = alt.differ i j (omega arith) ri in
-            rw (ap q y ∙ new)
-            (⊎_elim
-            (λ (g : c i ≡ 0). omega (arith, b.1 (omega arith), hit e c v 0 i (sym y) g, miss_colour e c v 1 i (omega arith)))
-            (λ (g : c i ≢ 0). omega (arith, b.0 (omega arith), hit e c v 1 i (sym y) (omega arith), miss_colour e c v 0 i g))
-            (cases_eq (c i) 0)))
+            let n0 = hit e c v 0 i (sym y) in
+            let n1 = hit e c v 1 i (sym y) in
+            let m0 = miss_colour e c v 0 i in
+            let m1 = miss_colour e c v 1 i in
+            rw (ap q y ∙ new) (grind arith))
             (λ (ne : v ≢ e i). elsewhere c alt' v ne)
             (cases_eq v (e i));
       }
@@ -100,9 +84,7 @@ pairing_none e o p empty = record {
 
 balanced : (a b : ℕ) (c : ℕ → ℕ) (o : Option ℕ) → ((k : ℕ) → o ≡ Some k → c k < 2) → Balance a b c o → (a ≤ b + 1) × (b ≤ a + 1)
 balanced a b c None low h = (omega arith, omega arith)
-balanced a b c (Some k) low h =
-    let two : c k < 2 = low k refl in
-    ⊎_elim (λ (g : c k ≡ 0). let z = h.0 g in (omega arith, omega arith)) (λ (g : c k ≢ 0). let z = h.1 (omega arith) in (omega arith, omega arith)) (cases_eq (c k) 0)
+balanced a b c (Some k) low h = let two : c k < 2 = low k refl in grind arith
 
 pub pairing_all : (e : ℕ → ℕ) (o p : ℕ → Option ℕ) (n : ℕ) → Pairing e o p n → Paired n e p
 pairing_all e o p n w = record {
@@ -110,26 +92,66 @@ pairing_all e o p n w = record {
   even = λ c alt v. balanced (cnt (has e c v 0) n) (cnt (has e c v 1) n) c (o v) (λ k z. alt.two k (w.singles v k z).0) (w.even c alt v);
 }
 
+-- lines that are paired on a side, and then on the other
+pub paired_still : (n : ℕ) (e : ℕ → ℕ) (s : Side) (ps qs : List Partners) → Paired n e (partner ps s) → ((k : ℕ) → partner qs s k ≡ partner ps s k) → Paired n e (partner qs s)
+paired_still n e s ps qs paired same = record {
+  symmetric = λ k j l z. let m = paired.symmetric k j l (sym (same k) ∙ z) in (m.0, m.1, same j ∙ m.2);
+  even = λ c alt v. paired.even c (record { two = alt.two; differ = λ k j l z. alt.differ k j l (same k ∙ z) }) v;
+}
+
+pub paired_both : (n : ℕ) (e : Side → ℕ → ℕ) (ps : List Partners) → Paired n (e Left) (partner ps Left) → Paired n (e Right) (partner ps Right) → (s : Side) → Paired n (e s) (partner ps s)
+paired_both n e ps left right Left = left
+paired_both n e ps left right Right = right
+
+-- partners where one of them has changed
+module _ (s : Side) (ps : List Partners) (k : ℕ) (o : Option ℕ) where
+  pub set_here : k < length ps → partner (set_partner s ps k o) s k ≡ o
+  set_here l = ap (partner_on s) (get_or-set_same ps k _ nobody l) ∙ new s
+    where
+      new : (t : Side) → partner_on t (with_partner t o (get_or ps k nobody)) ≡ o
+      new Left = refl
+      new Right = refl
+
+  pub set_elsewhere : (t : Side) (u : ℕ) → u ≢ k → partner (set_partner s ps k o) t u ≡ partner ps t u
+  set_elsewhere t u ne = ap (partner_on t) (get_or-set_other ps k u _ nobody ne)
+
+  pub set_other_side : k < length ps → (u : ℕ) → partner (set_partner s ps k o) (other s) u ≡ partner ps (other s) u
+  set_other_side l u =
+      ⊎_elim
+      (λ (y : u ≡ k). rw y (ap (partner_on (other s)) (get_or-set_same ps k _ nobody l) ∙ old s))
+      (λ (ne : u ≢ k). set_elsewhere (other s) u ne)
+      (cases_eq u k)
+    where
+      old : (t : Side) → partner_on (other t) (with_partner t o (get_or ps k nobody)) ≡ partner_on (other t) (get_or ps k nobody)
+      old Left = refl
+      old Right = refl
+
 -- the same over tables, as the code keeps them
-module _ (e : ℕ → ℕ) (ss ps : List (Option ℕ)) (k v : ℕ) (w : Pairing e (at ss) (at ps) k) (ev : e k ≡ v) (lv : v < length ss) (lk : k < length ps) where
+module _ (s : Side) (e : ℕ → ℕ) (ss : List (Option ℕ)) (ps : List Partners) (k v : ℕ) (w : Pairing e (at ss) (partner ps s) k) (ev : e k ≡ v) (lv : v < length ss) (lk : k < length ps) where
   others : (y : Option ℕ) (u : ℕ) → u ≢ e k → at (set ss v y) u ≡ at ss u
   others y u ne = get_or-set_other ss v u y None (λ z. ne (z ∙ sym ev))
 
   here : (y : Option ℕ) → at (set ss v y) (e k) ≡ y
   here y = ap (at (set ss v y)) ev ∙ get_or-set_same ss v y None lv
 
-  pub pairing_met : (f : Option ℕ) → at ss v ≡ f → Pairing e (at (singles_after f ss v k)) (at (partners_after f ps k)) (k + 1)
-  pairing_met None f =
-      pairing_single e (at ss) (at ps) k w (at (set ss v (Some k))) (at (set ps k None)) (others (Some k)) (ap (at ss) ev ∙ f) (here (Some k))
-      (get_or-set_same ps k None None lk) (λ u ne. get_or-set_other ps k u None None ne)
+  pub pairing_met : (f : Option ℕ) → at ss v ≡ f
+      → Pairing e (at (singles_after f ss v k)) (partner (partners_after s f ps k) s) (k + 1) × ((u : ℕ) → partner (partners_after s f ps k) (other s) u ≡ partner ps (other s) u)
+  pairing_met None f = (
+    pairing_single e (at ss) (partner ps s) k w (at (set ss v (Some k))) (partner (set_partner s ps k None) s) (others (Some k)) (ap (at ss) ev ∙ f) (here (Some k))
+        (set_here s ps k None lk) (set_elsewhere s ps k None s),
+    set_other_side s ps k None lk,
+  )
   pairing_met (Some j) f =
       let below : j < k = (w.singles v j f).0 in
-      let lj : j < length (set ps k (Some j)) = simp length-set (omega arith) in
-      let ne : k ≢ j = omega arith in
-      pairing_pair e (at ss) (at ps) k w (at (set ss v None)) (at (set (set ps k (Some j)) j (Some k))) (others None) j (ap (at ss) ev ∙ f) (here None)
-      (get_or-set_other (set ps k (Some j)) j k (Some k) None ne ∙ get_or-set_same ps k (Some j) None lk)
-      (get_or-set_same (set ps k (Some j)) j (Some k) None lj)
-      (λ u nk nj. get_or-set_other (set ps k (Some j)) j u (Some k) None nj ∙ get_or-set_other ps k u (Some j) None nk)
+      let qs = set_partner s ps k (Some j) in
+      let lj : j < length qs = simp length-set (omega arith) in
+      let ne : k ≢ j = omega arith in (
+        pairing_pair e (at ss) (partner ps s) k w (at (set ss v None)) (partner (set_partner s qs j (Some k)) s) (others None) j (ap (at ss) ev ∙ f) (here None)
+            (set_elsewhere s qs j (Some k) s k ne ∙ set_here s ps k (Some j) lk)
+            (set_here s qs j (Some k) lj)
+            (λ u nk nj. set_elsewhere s qs j (Some k) s u nj ∙ set_elsewhere s ps k (Some j) s u nk),
+        λ u. set_other_side s qs j (Some k) lj u ∙ set_other_side s ps k (Some j) lk u,
+      )
 
 -- the single lines of the first i lines are forgotten
 abbrev pub Cleared : ℕ → ℕ → (ℕ → ℕ) → List (Option ℕ) → Type 0
@@ -137,12 +159,10 @@ Cleared i n e ss = (v k : ℕ) → at ss v ≡ Some k → (i ≤ k) × (k < n) �
 
 pub cleared_more : (i n : ℕ) (e : ℕ → ℕ) (ss : List (Option ℕ)) (u : ℕ) → e i ≡ u → u < length ss → Cleared i n e ss → Cleared (i + 1) n e (set ss u None)
 cleared_more i n e ss u eu l h v k z =
-    ⊎_elim
-    (λ (y : v ≡ u). absurd (apart (ap (at (set ss u None)) y ∙ get_or-set_same ss u None None l) z))
-    (λ (ne : v ≢ u).
-    let m = h v k (sym (get_or-set_other ss u v None None ne) ∙ z) in
-    (⊎_elim (λ (y : k ≡ i). absurd (ne (sym m.2 ∙ ap e y ∙ eu))) (λ (y : k ≢ i). omega arith) (cases_eq k i), m.1, m.2))
-    (cases_eq v u)
+    let m = h v k in
+    let same = get_or-set_same ss u None None l in
+    let other = get_or-set_other ss u v None None in
+    grind arith
 
 nothing : (o : Option ℕ) → ((k : ℕ) → o ≡ Some k → ⊥) → o ≡ None
 nothing None h = refl

@@ -8,8 +8,7 @@ use Rattle.lines.specs.declared.line.Side.TheVariants.{Left, Right}
 use Rattle.lines.specs.Lines.{other}
 use Rattle.euler.specs.declared.walk.Walk.{Walk}
 use Rattle.euler.specs.Pairs.{at}
-use Rattle.euler.specs.Walks.{Symmetric, Opposed, Settled, SettledBut, waits, waiting, PlacedBefore, Stepped, Ended}
-use Rattle.euler.proofs.Pairing.{apart, some_same}
+use Rattle.euler.specs.Walks.{Symmetric, Opposed, Settled, SettledBut, waits, waiting, PlacedBefore, Begun, Stepped, Ended}
 
 -- what is in a half stays there
 abbrev pub Stays : (ℕ → Option Bool) → (ℕ → Option Bool) → Type 0
@@ -22,8 +21,8 @@ sides Right Left = inr refl
 sides Right Right = inl refl
 
 not_other : (s : Side) → s ≡ other s → ⊥
-not_other Left e = let z : ◌≡◌ {A = ℕ} 0 1 = cc in omega arith
-not_other Right e = let z : ◌≡◌ {A = ℕ} 0 1 = cc in omega arith
+not_other Left e = cc
+not_other Right e = cc
 
 twice : (b : Bool) → not (not b) ≡ b
 twice true = refl
@@ -49,6 +48,10 @@ half_next Left Left = refl
 half_next Right Right = refl
 half_next Left Right = refl
 half_next Right Left = refl
+
+pub some_is : (o : Option Bool) → is_some o ≡ true → (b : Bool) × (o ≡ Some b)
+some_is None e = absurd (false≢true e)
+some_is (Some b) e = (b, refl)
 
 filled : (o : Option Bool) → o ≢ None → (b : Bool) × (o ≡ Some b)
 filled None h = absurd (h refl)
@@ -80,83 +83,39 @@ module _ (n : ℕ) (p : Side → ℕ → Option ℕ) (g : ℕ → Option Bool) (
     opposed_here met q pq =
         let m = symmetric s k q pq in
         let d = filled (h q) (met q pq) in
-        ⊎_elim
-        (λ (z : Opposed p h d.0 s q).
-        let e : b ≡ not d.0 = some_same w.placed (z k m.2) in
-        d.1 ∙ ap Some (sym (twice d.0) ∙ ap not (sym e)))
-        (⊎_elim
-        (λ (z : (s ≡ s) × (q ≡ k)). absurd (m.1 z.1))
-        (λ (z : (s ≡ other f) × (q ≡ x)).
-        let e : b ≡ true = w.alternate ∙ ap (half_on f) z.0 ∙ half_last f in
-        ap h z.1 ∙ w.start ∙ ap Some (ap not (sym e))))
-        (w.loose s q d.0 d.1)
+        let loose = w.loose s q d.0 d.1 in
+        let last = half_last f in
+        let again = twice d.0 in
+        grind arith
 
     pub walked : ((q : ℕ) → p s k ≡ Some q → h q ≢ None) → SettledBut x p h × Opposed p h false f x
     walked met =
         let here = opposed_here met in (
-          (λ t j d ne z.
-              ⊎_elim (λ (o : Opposed p h d t j). o)
-              (⊎_elim
-              (λ (y : (t ≡ s) × (j ≡ k)). let e : b ≡ d = some_same w.placed (ap h (sym y.1) ∙ z) in λ q pq. here q (ap (λ (t' : Side). p t' k) (sym y.0) ∙ ap (p t) (sym y.1) ∙ pq) ∙ ap Some (ap not e))
-              (λ (y : (t ≡ other f) × (j ≡ x)). absurd (ne y.1)))
-              (w.loose t j d z)),
-          ⊎_elim (λ (o : Opposed p h false f x). o)
-              (⊎_elim
-              (λ (y : (f ≡ s) × (x ≡ k)). let e : b ≡ false = some_same w.placed (ap h (sym y.1) ∙ w.start) in λ q pq. here q (ap (λ (t' : Side). p t' k) (sym y.0) ∙ ap (p f) (sym y.1) ∙ pq) ∙ ap Some (ap not e))
-              (λ (y : (f ≡ other f) × (x ≡ x)). absurd (not_other f y.0)))
-              (w.loose f x false w.start),
+          (λ t j d ne z q pq. let loose = w.loose t j d z in let hq = here q in grind arith),
+          (λ q pq. let loose = w.loose f x false w.start in let hq = here q in let no = not_other f in grind arith),
         )
 
     -- the partner q is put into the other half
     pub walking_more : (d : ℕ → Option Bool) (q : ℕ) → p s k ≡ Some q → h q ≡ None → d q ≡ Some (not b) → ((j : ℕ) → j ≢ q → d j ≡ h j) → Walking n p g d x f q (other s) (not b)
     walking_more d q pq free new old =
         let m = symmetric s k q pq in
-        let kept : (j : ℕ) (a : Bool) → h j ≡ Some a → d j ≡ Some a = λ j a z. old j (λ y. apart (ap h y ∙ free) z) ∙ z in
+        let kept : (j : ℕ) (a : Bool) → h j ≡ Some a → d j ≡ Some a = λ j a z. let oj = old j in grind arith in
         record {
           within = m.0;
           placed = new;
           start = kept x false w.start;
           loose = λ t j a z.
               ⊎_elim
-              (λ (y : j ≡ q).
-              let e : not b ≡ a = some_same new (ap d (sym y) ∙ z) in
-              ⊎_elim
-              (λ (u : t ≡ s). inl (λ r pr.
-              let back : k ≡ r = some_same m.2 (ap (λ (t' : Side). p t' q) (sym u) ∙ ap (p t) (sym y) ∙ pr) in
-              ap d (sym back) ∙ kept k b w.placed ∙ ap Some (sym (twice b) ∙ ap not e)))
-              (λ (u : t ≡ other s). inr (inl (u, y)))
-              (sides t s))
+              (λ (y : j ≡ q). ⊎_elim (λ (u : t ≡ s). inl (λ r pr. let back = kept k b w.placed in let again = twice b in grind arith)) (λ (u : t ≡ other s). inr (inl (u, y))) (sides t s))
               (λ (ne : j ≢ q).
-              let z' : h j ≡ Some a = sym (old j ne) ∙ z in
               ⊎_elim
               (λ (o : Opposed p h a t j). inl (λ r pr. kept r (not a) (o r pr)))
-              (⊎_elim
-              (λ (u : (t ≡ s) × (j ≡ k)). inl (λ r pr.
-              let to : q ≡ r = some_same pq (ap (λ (t' : Side). p t' k) (sym u.0) ∙ ap (p t) (sym u.1) ∙ pr) in
-              let e : b ≡ a = some_same w.placed (ap h (sym u.1) ∙ z') in
-              ap d (sym to) ∙ new ∙ ap Some (ap not e)))
-              (λ (u : (t ≡ other f) × (j ≡ x)). inr (inr u)))
-              (w.loose t j a z'))
+              (⊎_elim (λ (u : (t ≡ s) × (j ≡ k)). inl (λ r pr. let oj = old j ne in let pl = w.placed in grind arith)) (λ (u : (t ≡ other f) × (j ≡ x)). inr (inr u)))
+              (w.loose t j a (sym (old j ne) ∙ z)))
               (cases_eq j q);
           alternate = ap not w.alternate ∙ half_next f s;
           stays = λ j a z. kept j a (w.stays j a z);
         }
-
--- the same over a table, as the code keeps it
-module _ (n : ℕ) (p : Side → ℕ → Option ℕ) (gs hs : List (Option Bool)) (x : ℕ) (f : Side) (walk : Walk) (symmetric : Symmetric n p) (long : length hs ≡ n)
-    (w : Walking n p (at gs) (at hs) x f walk.line walk.side walk.half) where
-  pub stepped : (next : Walk) (q : Option ℕ) (ks : List (Option Bool)) → q ≡ p walk.side walk.line → Stepped q walk next hs ks → Walking n p (at gs) (at ks) x f next.line next.side next.half
-  stepped next q ks is st =
-      let to : p walk.side walk.line ≡ Some next.line = sym is ∙ st.to in
-      let l : next.line < length hs = omega (arith, (symmetric walk.side walk.line next.line to).0) in
-      rw (st.half, st.side, st.put)
-      (walking_more n p (at gs) x f symmetric (at hs) walk.line walk.side walk.half w (at (set hs next.line (Some (not walk.half)))) next.line to st.fresh
-      (get_or-set_same hs next.line (Some (not walk.half)) None l) (λ j ne. get_or-set_other hs next.line j (Some (not walk.half)) None ne))
-
-  pub finished : (q : Option ℕ) (ks : List (Option Bool)) → q ≡ p walk.side walk.line → Ended q hs ks → SettledBut x p (at ks) × Opposed p (at ks) false f x × Stays (at gs) (at ks)
-  finished q ks is en =
-      let r = walked n p (at gs) x f symmetric (at hs) walk.line walk.side walk.half w (λ j z. en.met j (is ∙ z)) in
-      rw en.kept (r.0, r.1, w.stays)
 
 -- how many lines are in no half
 abbrev pub unplaced : List (Option Bool) → ℕ
@@ -171,29 +130,21 @@ fewer hs k b l h =
 -- a line that is put into a half before its partners
 module _ (p : Side → ℕ → Option ℕ) (x : ℕ) where
   pub begun : (h d : ℕ → Option Bool) → h x ≡ None → ((j : ℕ) → j ≢ x → d j ≡ h j) → Settled p h → SettledBut x p d
-  begun h d free old all t j b ne z q pq =
-      let o : h q ≡ Some (not b) = all t j b (sym (old j ne) ∙ z) q pq in
-      old q (λ y. apart (ap h y ∙ free) o) ∙ o
+  begun h d free old all t j b ne z q pq = let s = all t j b in let oj = old j in let oq = old q in grind arith
 
 pub unset : (o : Option Bool) → is_some o ≡ false → o ≡ None
 unset None e = refl
 unset (Some b) e = absurd (true≢false e)
 
 pub placed_stays : (gs hs : List (Option Bool)) (x : ℕ) → Stays (at gs) (at hs) → PlacedBefore x gs → PlacedBefore x hs
-placed_stays gs hs x stays before k l = let b = filled (at gs k) (λ z. false≢true (sym (ap is_some z) ∙ before k l)) in ap is_some (stays k b.0 b.1)
+placed_stays gs hs x stays before k l = let b = some_is (at gs k) (before k l) in ap is_some (stays k b.0 b.1)
 
 -- a partner that does not wait is in the half true
 waits_stays : (a b : Option Bool) → ((d : Bool) → a ≡ Some d → b ≡ Some d) → waits b ≤ waits a
-waits_stays (Some true) b h = rw (h true refl) (omega arith)
-waits_stays (Some false) b h = rw (h false refl) (omega arith)
-waits_stays None (Some true) h = omega arith
-waits_stays None (Some false) h = omega arith
-waits_stays None None h = omega arith
+waits_stays a b h = let t = h true in let f = h false in grind arith
 
 waits_none : (o : Option Bool) → waits o ≡ 0 → o ≡ Some true
-waits_none (Some true) e = refl
-waits_none (Some false) e = absurd (omega arith)
-waits_none None e = absurd (omega arith)
+waits_none o e = grind arith
 
 module _ (p : Side → ℕ → Option ℕ) (t : Side) (x : ℕ) where
   pub waiting_none : (h : ℕ → Option Bool) → Opposed p h false t x → waiting h (p t x) ≡ 0
@@ -213,14 +164,28 @@ module _ (p : Side → ℕ → Option ℕ) (t : Side) (x : ℕ) where
   opposed_from : (h : ℕ → Option Bool) → waiting h (p t x) ≡ 0 → Opposed p h false t x
   opposed_from h e q z = waits_none (h q) (ap (waiting h) (sym z) ∙ e)
 
+-- the same over a table, as the code keeps it
+module _ (n : ℕ) (p : Side → ℕ → Option ℕ) (gs hs : List (Option Bool)) (x : ℕ) (f : Side) (walk : Walk) (symmetric : Symmetric n p) (long : length hs ≡ n)
+    (w : Walking n p (at gs) (at hs) x f walk.line walk.side walk.half) where
+  pub stepped : (next : Walk) (q : Option ℕ) (ks : List (Option Bool)) → q ≡ p walk.side walk.line → Stepped q walk next hs ks → Walking n p (at gs) (at ks) x f next.line next.side next.half
+  stepped next q ks is st =
+      let to : p walk.side walk.line ≡ Some next.line = sym is ∙ st.to in
+      let l : next.line < length hs = omega (arith, (symmetric walk.side walk.line next.line to).0) in
+      rw (st.half, st.side, st.put)
+      (walking_more n p (at gs) x f symmetric (at hs) walk.line walk.side walk.half w (at (set hs next.line (Some (not walk.half)))) next.line to st.fresh
+      (get_or-set_same hs next.line (Some (not walk.half)) None l) (λ j ne. get_or-set_other hs next.line j (Some (not walk.half)) None ne))
+
+  pub finished : (q : Option ℕ) (ks : List (Option Bool)) → Begun x p gs → q ≡ p walk.side walk.line → Ended q hs ks → Begun x p ks × (waiting (at ks) (p f x) ≡ 0)
+  finished q ks begun is en =
+      let r = walked n p (at gs) x f symmetric (at hs) walk.line walk.side walk.half w (λ j z. en.met j (is ∙ z)) in
+      rw en.kept (
+        record { start = w.stays x false begun.start; settled = r.0; before = placed_stays gs hs x w.stays begun.before },
+        waiting_none p f x (at hs) r.1,
+      )
+
 pub closed : (p : Side → ℕ → Option ℕ) (x : ℕ) (g : ℕ → Option Bool) → g x ≡ Some false → SettledBut x p g → waiting g (p Left x) ≡ 0 → waiting g (p Right x) ≡ 0 → Settled p g
 closed p x g start but left right t j b z =
-    ⊎_elim
-    (λ (y : j ≡ x).
-    let e : false ≡ b = some_same start (ap g (sym y) ∙ z) in
-    λ q pq. at_side t q (ap (p t) (sym y) ∙ pq) ∙ ap Some (ap not e))
-    (λ (ne : j ≢ x). but t j b ne z)
-    (cases_eq j x)
+    λ q pq. let here = at_side t q in let other = but t j b in grind arith
   where
     at_side : (t : Side) → Opposed p g false t x
     at_side Left = opposed_from p Left x g left

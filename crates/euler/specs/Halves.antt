@@ -1,10 +1,10 @@
 -- The counts of colours that are served, and what a split into two halves is.
-use Rattle.std.specs.Prelude.{◌≡◌, ℕ, ◌+◌, ◌<◌, ◌≤◌, Bool, cond, ◌&&◌, List, length, Some, None, Ok, Err, count_by, Option, Result, ◌==◌, count_ones, nat_le, nat_lt, slice_index}
+use Rattle.std.specs.Prelude.{◌≡◌, ℕ, ◌+◌, ◌<◌, ◌≤◌, Bool, ◌&&◌, List, length, Ok, Err, count_by, Option, Result, ◌==◌, count_ones, nat_le, slice_index}
 use Rattle.lines.specs.declared.line.Line.{Line}
 use Rattle.lines.specs.declared.line.Side.{Side}
 use Rattle.lines.specs.declared.refusal.ArrangeRefusal.{ArrangeRefusal}
 use Rattle.lines.specs.Lines.{end_of, ends, colours}
-use Rattle.lines.specs.Refusals.{Refusal, end_above}
+use Rattle.lines.specs.Refusals.{Refusal, bounds_refusal}
 
 -- the counts of colours that are served: those from 1 to 64 with one bit set
 abbrev pub one_bit_to_64 : ℕ → Bool
@@ -26,9 +26,7 @@ pub record Halved (before after : List Line) : Type 0 where
 
 -- the refusal of a split that is due, or none: 24 over 1,024 lines, then 25 an end above 511
 abbrev pub split_refusal : List Line → Option Refusal
-split_refusal ls =
-    cond (nat_lt 1024 (length ls)) (Some (record { number = 24; end = None }))
-    (cond (end_above ls) (Some (record { number = 25; end = None })) None)
+split_refusal ls = bounds_refusal ls
 
 -- accepted lines are halved, refused lines unchanged
 abbrev pub Splits : {A : Type 0} → Result A ArrangeRefusal → List Line → List Line → Type 0

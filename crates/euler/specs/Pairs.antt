@@ -1,5 +1,8 @@
 -- Lines that are partners at the ends of one side.
 use Rattle.std.specs.Prelude.{◌≡◌, ℕ, zero, suc, ◌+◌, ◌<◌, ◌≤◌, Bool, cond, ◌&&◌, ◌≢◌, List, Some, None, Option, ◌==◌, slice_index_or, slice_set}
+use Rattle.lines.specs.declared.line.Side.{Side}
+use Rattle.lines.specs.declared.line.Side.TheVariants.{Left, Right}
+use Rattle.euler.specs.declared.pairs.Partners.{Partners}
 
 -- what a table holds at a place, none past its end
 abbrev pub at : {A : Type 0} → List (Option A) → ℕ → Option A
@@ -18,10 +21,32 @@ abbrev pub singles_after : Option ℕ → List (Option ℕ) → ℕ → ℕ → 
 singles_after None ss v k = slice_set ss v (Some k)
 singles_after (Some j) ss v k = slice_set ss v None
 
--- the table of partners after it
-abbrev pub partners_after : Option ℕ → List (Option ℕ) → ℕ → List (Option ℕ)
-partners_after None ps k = slice_set ps k None
-partners_after (Some j) ps k = slice_set (slice_set ps k (Some j)) j (Some k)
+-- a line with no partners
+abbrev pub nobody : Partners
+nobody = record { left = None; right = None }
+
+-- the partner of a line at its end on a side
+abbrev pub partner_on : Side → Partners → Option ℕ
+partner_on Left p = p.left
+partner_on Right p = p.right
+
+-- partners with another one on a side
+abbrev pub with_partner : Side → Option ℕ → Partners → Partners
+with_partner Left o p = record p { left = o }
+with_partner Right o p = record p { right = o }
+
+-- the partner of line k at its end on a side, by the table
+abbrev pub partner : List Partners → Side → ℕ → Option ℕ
+partner ps s k = partner_on s (slice_index_or ps k nobody)
+
+-- the table where line k has another partner on a side
+abbrev pub set_partner : Side → List Partners → ℕ → Option ℕ → List Partners
+set_partner s ps k o = slice_set ps k (with_partner s o (slice_index_or ps k nobody))
+
+-- the table of partners after line k came to an end of a side where `found` was single
+abbrev pub partners_after : Side → Option ℕ → List Partners → ℕ → List Partners
+partners_after s None ps k = set_partner s ps k None
+partners_after s (Some j) ps k = set_partner s (set_partner s ps k (Some j)) j (Some k)
 
 -- how many k below i pass the test
 abbrev pub cnt : (ℕ → Bool) → ℕ → ℕ

@@ -1,9 +1,8 @@
 -- Lines that are dealt into two halves, coloured each for itself and put together again.
-use Rattle.std.specs.Prelude.{◌≡◌, ℕ, ◌+◌, ◌<◌, ◌≤◌, Bool, true, cond, not, List, [], ◌∷◌, length, drop, ◌==◌, slice_index_or}
+use Rattle.std.specs.Prelude.{◌≡◌, ℕ, ◌+◌, ◌<◌, ◌≤◌, Bool, cond, not, List, [], ◌∷◌, drop, ◌==◌, slice_index_or}
 use Rattle.lines.specs.declared.line.Line.{Line}
 use Rattle.lines.specs.declared.line.Side.{Side}
-use Rattle.lines.specs.Lines.{ends, DegreesWithin, Inside}
-use Rattle.euler.specs.Halves.{one_bit_to_64, share}
+use Rattle.euler.specs.Halves.{share}
 
 -- a line is in the first half
 abbrev pub is_low : Line → Bool
@@ -13,20 +12,18 @@ is_low l = l.colour == 0
 abbrev pub is_high : Line → Bool
 is_high l = not (l.colour == 0)
 
--- the lines of ls in order, each replaced by the next one of its half
+-- a line with another colour
+abbrev pub recoloured : Line → ℕ → Line
+recoloured l z = record l { colour = z }
+
+-- the lines of ls in order, each with the colour of the next one of its half
 abbrev pub weave : List Line → List Line → List Line → List Line
 weave [] xs ys = []
-weave (l ∷ ls) xs ys = cond (is_low l) (slice_index_or xs 0 l ∷ weave ls (drop 1 xs) ys) (slice_index_or ys 0 l ∷ weave ls xs (drop 1 ys))
+weave (l ∷ ls) xs ys =
+    cond (is_low l) (recoloured l (slice_index_or xs 0 l).colour ∷ weave ls (drop 1 xs) ys) (recoloured l (slice_index_or ys 0 l).colour ∷ weave ls xs (drop 1 ys))
 
 -- the c colours from `first` on are used, and each at most once at an end
 pub record Spread (first c : ℕ) (ls : List Line) : Type 0 where
   pub single : (s : Side) (v z : ℕ) → share s v z ls ≤ 1
   pub low : (s : Side) (v z : ℕ) → z < first → share s v z ls ≡ 0
   pub high : (s : Side) (v z : ℕ) → first + c ≤ z → share s v z ls ≡ 0
-
--- c is served and the lines are not refused
-pub record Servable (c : ℕ) (ls : List Line) : Type 0 where
-  pub served : one_bit_to_64 c ≡ true
-  pub few : length ls ≤ 1024
-  pub inside : Inside (ends ls)
-  pub within : DegreesWithin c (ends ls)

@@ -1,15 +1,9 @@
 -- Lines that are put into two halves, so that partners are in different ones. The halves are false and true.
 use Rattle.std.specs.Prelude.{◌≡◌, ℕ, ◌<◌, Bool, true, false, not, ◌≢◌, List, is_some, Some, None, Option, slice_set}
 use Rattle.lines.specs.declared.line.Side.{Side}
-use Rattle.lines.specs.declared.line.Side.TheVariants.{Left, Right}
 use Rattle.lines.specs.Lines.{other}
 use Rattle.euler.specs.declared.walk.Walk.{Walk}
 use Rattle.euler.specs.Pairs.{at}
-
--- the partner of line k at its end on a side, by the tables of both sides
-abbrev pub partner : List (Option ℕ) → List (Option ℕ) → Side → ℕ → Option ℕ
-partner ls rs Left k = at ls k
-partner ls rs Right k = at rs k
 
 -- a line is the partner of its partner, and not its own
 abbrev pub Symmetric : ℕ → (Side → ℕ → Option ℕ) → Type 0
@@ -41,6 +35,12 @@ waiting h (Some q) = waits (h q)
 -- the lines before line x are in halves
 abbrev pub PlacedBefore : ℕ → List (Option Bool) → Type 0
 PlacedBefore x hs = (j : ℕ) → j < x → is_some (at hs j) ≡ true
+
+-- line x is put into the half false, the lines before it are in halves, and the partners of all lines but x are settled
+pub record Begun (x : ℕ) (p : Side → ℕ → Option ℕ) (hs : List (Option Bool)) : Type 0 where
+  pub start : at hs x ≡ Some false
+  pub settled : SettledBut x p (at hs)
+  pub before : PlacedBefore x hs
 
 -- a step of a walk leads to the partner that is in no half yet, puts it into the other half and turns to its other side
 pub record Stepped (q : Option ℕ) (w next : Walk) (before after : List (Option Bool)) : Type 0 where

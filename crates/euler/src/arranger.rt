@@ -1,10 +1,7 @@
 // The Euler arranger: its room to work in, and its meter.
-ghost use Rattle.std.specs.Prelude.{◌≡◌, zero, suc, ◌≤◌, true, length, IfOk, vec_len, OnOk};
+ghost use Rattle.std.specs.Prelude.{◌≡◌, zero, suc, ◌≤◌, IfOk, vec_len};
 ghost use Rattle.std.proofs.Math.Path.{refl};
-ghost use Rattle.lines.specs.Refusals.{told, refusal_due};
-ghost use Rattle.lines.specs.Arrangers.{Arranged};
 ghost use Rattle.euler.specs.Halves.{one_bit_to_64};
-ghost use Rattle.euler.specs.Spreads.{Servable};
 ghost use Rattle.euler.specs.Powers.{served_within};
 ghost use Rattle.std.proofs.Common.{arith};
 ghost use Rattle.std.specs.Int.Count.{ones, ones_in};
@@ -57,32 +54,6 @@ fn is_served(c: u8) -> bool
     c.count_ones() == 1 && c <= 64
 }
 
-// The first refusal that is due, where one is.
-fn check(degrees: &mut Degrees, lines: &[Line], c: u8) -> Result<(), ArrangeRefusal>
-    ensures refused { told result ≡ refusal_due (one_bit_to_64 c) c lines.now }
-    ensures accepted { OnOk result (Servable c lines.now) }
-{
-    degrees.check(lines, is_served(c), c)
-}
-
-// Colours lines that are not refused.
-fn colour(splitter: &mut Splitter, lines: &mut [Line], room: &mut [Line], c: u8)
-    requires accepted { Servable c lines.old }
-    requires room { length room.old ≡ 12288 }
-    ensures { Arranged c lines.old lines.new }
-{
-    spread(
-        splitter,
-        lines,
-        room,
-        ColourRange {
-            first: 0,
-            count: c,
-            splits: c.trailing_zeros(),
-        },
-    );
-}
-
 impl Arranger for Euler {
     ghost served = { one_bit_to_64 };
 
@@ -113,8 +84,13 @@ impl Arranger for Euler {
     }
 
     fn arrange(&mut self, lines: &mut [Line], c: u8) -> Result<(), ArrangeRefusal> {
-        check(&mut self.degrees, lines, c)?;
-        colour(&mut self.splitter, lines, self.room.as_mut_slice(), c);
+        self.degrees.check(lines, is_served(c), c)?;
+        let colours = ColourRange {
+            first: 0,
+            count: c,
+            splits: c.trailing_zeros(),
+        };
+        spread(&mut self.splitter, lines, self.room.as_mut_slice(), colours);
         self.meter = add_lines(self.meter, lines.len());
         Ok(())
     }

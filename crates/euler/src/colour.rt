@@ -1,8 +1,9 @@
 // Colours for lines by splitting them in two, again and again, until no two lines of a part have a common end.
-ghost use Rattle.std.specs.Prelude.{◌≡◌, ℕ, ◌+◌, ◌*◌, ◌^◌, ◌<◌, ◌≤◌, length, take, filter, slice_index};
+ghost use Rattle.std.specs.Prelude.{◌≡◌, ℕ, ◌+◌, ◌*◌, ◌<◌, ◌≤◌, length, filter, slice_index};
 ghost use Rattle.lines.specs.Lines.{ends, colours, DegreesWithin, Inside};
 ghost use Rattle.euler.specs.Spreads.{is_low, is_high, weave, Spread};
 
+use crate::pile::Pile;
 use crate::range::ColourRange;
 use crate::split::Splitter;
 use lines::line::Line;
@@ -17,44 +18,46 @@ fn fill(lines: &mut [Line], colour: u8)
     }
 }
 
-// Copies the lines of each half, and tells how many they are.
-fn deal(lines: &[Line], low: &mut [Line], high: &mut [Line]) -> (usize, usize)
-    requires low { length low.old ≡ length lines.now }
-    requires high { length high.old ≡ length lines.now }
-    ensures within { (result.0 ≤ length lines.now) × (result.1 ≤ length lines.now) }
-    ensures low { take result.0 low.new ≡ filter is_low lines.now }
-    ensures high { take result.1 high.new ≡ filter is_high lines.now }
+// Copies the lines of each half, in order, into a room, and tells what room is left.
+#[tactic(auto, using(crate::proofs::Weaving::room_left))]
+fn deal<'a>(
+    lines: &[Line],
+    room: &'a mut [Line],
+) -> (&'a mut [Line], &'a mut [Line], &'a mut [Line])
+    requires { 2 * length lines.now ≤ length room.old }
+    ensures low { result.0.now ≡ filter is_low lines.now }
+    ensures high { result.1.now ≡ filter is_high lines.now }
+    ensures left { length result.2.now + 2 * length lines.now ≡ length room.old }
 {
-    let mut lows = 0;
-    let mut highs = 0;
+    let (low, rest) = room.split_at_mut(lines.len());
+    let (high, rest) = rest.split_at_mut(lines.len());
+    let mut low = Pile::new(low);
+    let mut high = Pile::new(high);
     for line in lines {
         if line.colour == 0 {
-            low[lows] = *line;
-            lows += 1;
+            low.push(*line);
         } else {
-            high[highs] = *line;
-            highs += 1;
+            high.push(*line);
         }
     }
-    (lows, highs)
+    (low.into_lines(), high.into_lines(), rest)
 }
 
-// Puts the lines of the halves together again in the old order.
+// Gives each line the colour that its copy in a half has got.
 fn gather(lines: &mut [Line], low: &[Line], high: &[Line])
     requires low { length low.now ≡ length (filter is_low lines.old) }
     requires high { length high.now ≡ length (filter is_high lines.old) }
     ensures { lines.new ≡ weave lines.old low.now high.now }
 {
-    let mut lows = 0;
-    let mut highs = 0;
+    let mut low = low.iter();
+    let mut high = high.iter();
     for line in lines.iter_mut() {
-        if line.colour == 0 {
-            *line = low[lows];
-            lows += 1;
+        let copy = if line.colour == 0 {
+            low.next().unwrap()
         } else {
-            *line = high[highs];
-            highs += 1;
-        }
+            high.next().unwrap()
+        };
+        line.colour = copy.colour;
     }
 }
 
@@ -67,25 +70,19 @@ pub(crate) fn spread(
 )
     requires few { length lines.old ≤ 1024 }
     requires inside { Inside (ends lines.old) }
-    requires within { DegreesWithin (2 ^ range.splits) (ends lines.old) }
-    requires power { range.count ≡ 2 ^ range.splits }
-    requires six { range.splits ≤ 6 }
+    requires within { DegreesWithin range.count (ends lines.old) }
     requires room { 2 * length lines.old * range.splits ≤ length room.old }
-    requires top { range.first + 2 ^ range.splits ≤ 64 }
     ensures ends { ends lines.new ≡ ends lines.old }
-    ensures spread { Spread range.first (2 ^ range.splits) lines.new }
+    ensures spread { Spread range.first range.count lines.new }
 {
-    if range.count == 1 {
-        fill(lines, range.first);
-        return;
+    match range.halves() {
+        None => fill(lines, range.first),
+        Some((lower, upper)) => {
+            splitter.halve(lines);
+            let (low, high, rest) = deal(lines, room);
+            spread(splitter, low, rest, lower);
+            spread(splitter, high, rest, upper);
+            gather(lines, low, high);
+        }
     }
-    splitter.halve(lines);
-    let n = lines.len();
-    let (low, rest) = room.split_at_mut(n);
-    let (high, rest) = rest.split_at_mut(n);
-    let (lows, highs) = deal(lines, low, high);
-    let (lower, upper) = range.halves();
-    spread(splitter, &mut low[..lows], rest, lower);
-    spread(splitter, &mut high[..highs], rest, upper);
-    gather(lines, &low[..lows], &high[..highs]);
 }

@@ -2,11 +2,12 @@
 // end as many lines, or one more or less, and colours each half with half of the colours in the same way. The work is
 // proportional to the lines at each of the splits, of which there are at most six in a row.
 //
-//   pairs      pairs of lines at the ends of a side
+//   pairs      pairs of lines at the ends of either side
 //   walk       where a walk from partner to partner stands
 //   halves     halves of lines, such that partners are in different ones
 //   split      the split of lines into two halves
 //   range      the colours that are left for a part of the lines
+//   pile       lines that are laid one after another in a room
 //   colour     colours for lines by splitting them again and again
 //   arranger   the arranger itself
 #![tactic(auto)]
@@ -15,6 +16,7 @@ pub mod arranger;
 mod colour;
 mod halves;
 mod pairs;
+mod pile;
 mod range;
 pub mod split;
 mod walk;

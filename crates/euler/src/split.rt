@@ -1,46 +1,39 @@
 // The split of lines into two halves whose shares at every end, left or right, differ by at most one.
-ghost use Rattle.std.specs.Prelude.{◌≡◌, ℕ, ◌<◌, ◌≤◌, false, length, IfOk, Some, None, vec_len, slice_index, slice_index_or};
-ghost use Rattle.lines.specs.Lines.{ends, colours, Inside};
-ghost use Rattle.lines.specs.Refusals.{told, end_above};
+ghost use Rattle.std.specs.Prelude.{◌≡◌, ◌≤◌, length, IfOk, vec_len};
+ghost use Rattle.lines.specs.Lines.{ends, Inside};
+ghost use Rattle.lines.specs.Refusals.{told};
 ghost use Rattle.euler.specs.Halves.{Halved, split_refusal, Splits};
-ghost use Rattle.euler.specs.Pairs.{at, Empty};
-ghost use Rattle.euler.specs.Walks.{bit};
+ghost use Rattle.euler.specs.Pairs.{Empty};
 
-use crate::halves::place_all;
-use crate::pairs::find_partners;
-use lines::degrees::has_end_above;
+use crate::halves::Placement;
+use crate::pairs::{Partners, Singles};
+use lines::bounded::Bounded;
 use lines::line::Line;
 use lines::refusal::ArrangeRefusal;
 use std::alloc::{AllocError, Global};
 
-// Tables to work in: the line at each of the 512 ends of a side that has no partner yet, the partners of each of 1,024
-// lines, and their halves. No line is single between calls.
+// Tables to work in: the single lines of a side, the partners of each of 1,024 lines, and their halves. All memory is
+// got when they are made. Halves stand apart, since a walk writes them while it reads partners.
 #[derive(Drop)]
 pub struct Splitter {
-    single: Vec<Option<u16>>,
-    left_partner: Vec<Option<u16>>,
-    right_partner: Vec<Option<u16>>,
+    singles: Singles,
+    partners: Vec<Partners>,
     halves: Vec<Option<bool>>,
-    ghost ends: { vec_len single ≡ 512 },
-    ghost lefts: { vec_len left_partner ≡ 1024 },
-    ghost rights: { vec_len right_partner ≡ 1024 },
+    ghost rows: { vec_len partners ≡ 1024 },
     ghost places: { vec_len halves ≡ 1024 },
-    ghost empty: { (v : ℕ) → slice_index_or single.items v None ≡ None },
 }
 
 impl Splitter {
     // A splitter in which no line is single.
     pub fn new(heap: Global) -> Result<Splitter, AllocError>
-        ensures { IfOk result (λ s. Empty s.single.items) }
+        ensures { IfOk result (λ s. Empty s.singles.table.items) }
     {
-        let single = none_single(heap, 512)?;
-        let left_partner = vec![in heap; None; 1024]?;
-        let right_partner = vec![in heap; None; 1024]?;
+        let singles = Singles::new(heap)?;
+        let partners = vec![in heap; Partners::default(); 1024]?;
         let halves = vec![in heap; None; 1024]?;
         Ok(Splitter {
-            single,
-            left_partner,
-            right_partner,
+            singles,
+            partners,
             halves,
         })
     }
@@ -50,12 +43,7 @@ impl Splitter {
         ensures refused { told result ≡ split_refusal lines.old }
         ensures lines { Splits result lines.old lines.new }
     {
-        if lines.len() > 1024 {
-            return Err(ArrangeRefusal::TooManyLines);
-        }
-        if has_end_above(lines) {
-            return Err(ArrangeRefusal::EndAbove);
-        }
+        Bounded::new(lines)?;
         self.halve(lines);
         Ok(())
     }
@@ -63,93 +51,33 @@ impl Splitter {
     // Splits lines that are not refused.
     pub(crate) fn halve(&mut self, lines: &mut [Line])
         requires few { length lines.old ≤ 1024 }
-        requires inside { end_above lines.old ≡ false }
+        requires inside { Inside (ends lines.old) }
         ensures { Halved lines.old lines.new }
     {
-        let single = self.single.as_mut_slice();
-        let left = self.left_partner.as_mut_slice();
-        let right = self.right_partner.as_mut_slice();
+        let partners = self.partners.as_mut_slice();
         let halves = self.halves.as_mut_slice();
-        halve_with(lines, single, left, right, halves);
+        halve_with(lines, &mut self.singles, partners, halves);
     }
 }
 
-// A table of so many ends at which no line is single.
-fn none_single(heap: Global, ends: usize) -> Result<Vec<Option<u16>>, AllocError>
-    ensures { IfOk result (λ v. (vec_len v ≡ ends) × Empty v.items) }
-{
-    let single = vec![in heap; None; ends]?;
-    Ok(single)
-}
-
-// The colour that tells a half.
-fn colour_of(half: Option<bool>) -> u8
-    ensures { result ≡ bit half }
-{
-    match half {
-        Some(true) => 1,
-        Some(false) | None => 0,
-    }
-}
-
-// Gives each line the colour of its half, 0 or 1.
-fn tell(lines: &mut [Line], halves: &[Option<bool>])
-    requires long { length halves.now ≡ length lines.old }
-    ensures ends { ends lines.new ≡ ends lines.old }
-    ensures colours { (k : ℕ) → k < length lines.old → slice_index (colours lines.new) k ≡ bit (at halves.now k) }
-{
-    for k in 0..lines.len() {
-        lines[k].colour = colour_of(halves[k]);
-    }
-}
-
-// Splits the lines with tables as long as the lines are many.
-fn halve_fitting(
-    lines: &mut [Line],
-    single: &mut [Option<u16>],
-    left: &mut [Option<u16>],
-    right: &mut [Option<u16>],
-    halves: &mut [Option<bool>],
-)
-    requires few { length lines.old ≤ 1024 }
-    requires inside { Inside (ends lines.old) }
-    requires ends { length single.old ≡ 512 }
-    requires left { length left.old ≡ length lines.old }
-    requires right { length right.old ≡ length lines.old }
-    requires halves { length halves.old ≡ length lines.old }
-    requires empty { Empty single.old }
-    ensures halved { Halved lines.old lines.new }
-    ensures empty { Empty single.new }
-{
-    find_partners(lines, single, left, right);
-    place_all(halves, left, right);
-    tell(lines, halves);
-}
-
-// Splits the lines with the first places of longer tables.
+// Splits the lines with the first places of the tables of partners and halves.
 fn halve_with(
     lines: &mut [Line],
-    single: &mut [Option<u16>],
-    left: &mut [Option<u16>],
-    right: &mut [Option<u16>],
+    singles: &mut Singles,
+    partners: &mut [Partners],
     halves: &mut [Option<bool>],
 )
     requires few { length lines.old ≤ 1024 }
     requires inside { Inside (ends lines.old) }
-    requires ends { length single.old ≡ 512 }
-    requires left { length left.old ≡ 1024 }
-    requires right { length right.old ≡ 1024 }
+    requires partners { length partners.old ≡ 1024 }
     requires halves { length halves.old ≡ 1024 }
-    requires empty { Empty single.old }
-    ensures halved { Halved lines.old lines.new }
-    ensures empty { Empty single.new }
+    ensures { Halved lines.old lines.new }
 {
     let n = lines.len();
-    halve_fitting(
-        lines,
-        single,
-        &mut left[..n],
-        &mut right[..n],
-        &mut halves[..n],
-    );
+    let partners = &mut partners[..n];
+    let halves = &mut halves[..n];
+    singles.find_partners(Bounded { lines: &*lines }, partners);
+    let mut placement = Placement { halves, partners };
+    placement.place_all();
+    placement.tell(lines);
 }

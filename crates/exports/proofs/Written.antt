@@ -1,6 +1,7 @@
 -- Colours written into the bytes of lines, and the lines that then stand there.
-use Rattle.std.proofs.Common.{◌≡◌, ℕ, ◌+◌, ◌*◌, ◌/◌, ◌%◌, ◌<◌, ◌≢◌, List, length, get_or, set, sym, refl, ap, ◌∙◌, ⊎_elim, arith}
-use Rattle.std.proofs.lemmas.List.{get_or-set_same, get_or-set_other, same_lists, ext_get_or}
+use Rattle.std.proofs.Common.{◌≡◌, ℕ, zero, suc, ◌+◌, ◌*◌, ◌/◌, ◌%◌, ◌<◌, ◌≢◌, List, [], map, length, get_or, take, drop, set, sym, refl, ap, ◌∙◌, ⊎_elim, arith}
+use Rattle.std.proofs.lemmas.List.{get_or-set_same, get_or-set_other, get_or-take, get_or-drop, get_or-map, length-map, drop-drop, same_lists, ext_get_or}
+use Rattle.std.specs.Simd.{first_chunks}
 use Rattle.std.proofs.lemmas.Bool.{cases_eq}
 use Rattle.std.proofs.lemmas.List.FromFn.{length-map-range_with_len, get_or-map-range_with_len}
 use Rattle.lines.specs.declared.line.Line.{Line}
@@ -24,6 +25,34 @@ length_lines bs = length-map-range_with_len (line_at bs) 0 (length bs / 5)
 
 pub getD_lines : (bs : List ℕ) (i : ℕ) (d : Line) → i < length bs / 5 → get_or (lines_of bs) i d ≡ line_at bs i
 getD_lines bs i d l = get_or-map-range_with_len (line_at bs) 0 (length bs / 5) i i d l (omega arith)
+
+-- five bytes are those of a line
+chunk_at : (k : ℕ) (bs : List ℕ) (i : ℕ) → i < k → get_or (first_chunks 5 k bs) i [] ≡ take 5 (drop (i * 5) bs)
+chunk_at zero bs i l = absurd (omega arith)
+chunk_at (suc k) bs zero l = refl
+chunk_at (suc k) bs (suc i) l = chunk_at k (drop 5 bs) i (omega arith) ∙ ap (take 5) (drop-drop (i * 5) 5 bs) ∙ ap (λ (n : ℕ). take 5 (drop n bs)) (omega arith)
+
+byte_at : (bs : List ℕ) (i j : ℕ) → j < 5 → get_or (take 5 (drop (i * 5) bs)) j 0 ≡ get_or bs (5 * i + j) 0
+byte_at bs i j l = get_or-take 5 (drop (i * 5) bs) j 0 l ∙ get_or-drop (i * 5) bs j 0 ∙ ap (λ (k : ℕ). get_or bs k 0) (omega arith)
+
+cell_line : (bs : List ℕ) (i : ℕ) → line_at (take 5 (drop (i * 5) bs)) 0 ≡ line_at bs i
+cell_line bs i = rw (first_byte, byte_at bs i 1 (omega arith), byte_at bs i 2 (omega arith), byte_at bs i 3 (omega arith), byte_at bs i 4 (omega arith)) refl
+  where
+    first_byte : get_or (take 5 (drop (i * 5) bs)) 0 0 ≡ get_or bs (5 * i) 0
+    first_byte = byte_at bs i 0 (omega arith) ∙ ap (λ (k : ℕ). get_or bs k 0) (omega arith)
+
+length_chunks : (k : ℕ) (bs : List ℕ) → length (first_chunks 5 k bs) ≡ k
+length_chunks zero bs = refl
+length_chunks (suc k) bs = ap (λ (n : ℕ). suc n) (length_chunks k (drop 5 bs))
+
+pub lines_by_five : (bs : List ℕ) → map (λ cell. line_at cell 0) (first_chunks 5 (length bs / 5) bs) ≡ lines_of bs
+lines_by_five bs =
+    let n = length bs / 5 in
+    let five : length (map (λ cell. line_at cell 0) (first_chunks 5 n bs)) ≡ n = length-map (first_chunks 5 n bs) (λ cell. line_at cell 0) ∙ length_chunks n bs in
+    same_lists (map (λ cell. line_at cell 0) (first_chunks 5 n bs)) (lines_of bs) (five ∙ sym (length_lines bs))
+    (λ i d l.
+    let low : i < n = omega arith in
+    get_or-map (λ cell. line_at cell 0) (first_chunks 5 n bs) i [] d (omega (arith, length_chunks n bs)) ∙ ap (λ (cell : List ℕ). line_at cell 0) (chunk_at n bs i low) ∙ cell_line bs i ∙ sym (getD_lines bs i d low))
 
 -- bytes with the ends of bs and the colours of ls hold ls, if ls has the ends of bs
 module _ (bs ds : List ℕ) (ls : List Line) (size : length ds ≡ length bs) (same : ends ls ≡ ends (lines_of bs)) (kept : Kept bs ds) where

@@ -3,8 +3,12 @@ use Rattle.std.specs.Prelude.{◌≡◌, ℕ, ◌+◌, ◌*◌, ◌/◌, ◌%◌
 use Rattle.std.specs.List.{range_with_len}
 use Rattle.lines.specs.declared.line.Line.{Line}
 use Rattle.lines.specs.declared.refusal.ArrangeRefusal.{ArrangeRefusal}
-use Rattle.lines.specs.Refusals.{Refusal, refusal_due}
+use Rattle.lines.specs.Refusals.{Refusal, refusal, refusal_due}
 use Rattle.lines.specs.Arrangers.{Arranged}
+use Rattle.failure.specs.declared.Failure.{Failure}
+use Rattle.failure.specs.declared.Failure.TheVariants.{Refused, OutOfMemory}
+use Rattle.exports.specs.declared.error.BytesRefusal.{BytesRefusal}
+use Rattle.exports.specs.declared.error.BytesRefusal.TheVariants.{BrokenLine, Lines}
 
 -- line i: left end and right end, each low byte first, and then the colour
 abbrev pub line_at : List ℕ → ℕ → Line
@@ -56,14 +60,37 @@ pub record Recoloured (ls : List Line) (before after : List ℕ) : Type 0 where
   pub lines : lines_of after ≡ ls
   pub ends : Kept before after
 
--- what becomes of the bytes: the lines stand in them, or they stay as they were
-abbrev pub Settles : {A : Type 0} → Result A ArrangeRefusal → List Line → List ℕ → List ℕ → Type 0
-Settles (Ok _) ls before after = Recoloured ls before after
-Settles (Err _) ls before after = after ≡ before
+-- what C is told: 0 where the lines are arranged, else the number of the refusal, or 255
+abbrev pub code_of : {A : Type 0} → Result A (Failure BytesRefusal) → ℕ
+code_of (Ok _) = 0
+code_of (Err (Refused (Lines e))) = (refusal e).number
+code_of (Err (Refused BrokenLine)) = 255
+code_of (Err OutOfMemory) = 255
 
--- what an answer r says of the bytes before and after
+-- no byte changes, and the bytes are whole lines that the calls meet with this refusal
+pub record Untouched (times : ℕ) (served : Bool) (c : ℕ) (before after : List ℕ) (due : Option Refusal) : Type 0 where
+  pub whole : length before % 5 ≡ 0
+  pub refused : refusal_in times served c (lines_of before) ≡ due
+  pub same : after ≡ before
+
+-- the bytes are whole lines that are not refused; they stand there again, arranged `times` times over
+pub record Rewritten (times : ℕ) (served : Bool) (c : ℕ) (before after : List ℕ) : Type 0 where
+  pub whole : length before % 5 ≡ 0
+  pub accepted : refusal_in times served c (lines_of before) ≡ None
+  pub lines : Repeated times c (lines_of before) (lines_of after)
+  pub ends : Kept before after
+  pub idle : times ≡ 0 → after ≡ before
+
+-- what an answer says of the bytes before and after; for want of memory no byte changes
+abbrev pub Rewrites : {A : Type 0} → Result A (Failure BytesRefusal) → ℕ → Bool → ℕ → List ℕ → List ℕ → Type 0
+Rewrites (Ok _) times served c before after = Rewritten times served c before after
+Rewrites (Err (Refused BrokenLine)) times served c before after = (length before % 5 ≢ 0) × (after ≡ before)
+Rewrites (Err (Refused (Lines e))) times served c before after = Untouched times served c before after (Some (refusal e))
+Rewrites (Err OutOfMemory) times served c before after = (length before % 5 ≡ 0) × (after ≡ before)
+
+-- what the code r that C is told says of the bytes before and after
 pub record Outcome (times : ℕ) (served : Bool) (c : ℕ) (before after : List ℕ) (r : ℕ) : Type 0 where
-  -- 255 is also the answer where there is no memory
+  -- 255 is also told where there is no memory
   pub answer : r ≢ 255 → r ≡ answer_due times served c before
   -- where the lines are not arranged, no byte changes
   pub unchanged : r ≢ 0 → after ≡ before

@@ -1,14 +1,17 @@
 // Arranges lines that stand in bytes, by any arranger.
-ghost use Rattle.std.specs.Prelude.{◌≡◌, ◌%◌, length};
-ghost use Rattle.lines.specs.Lines.{ends};
+ghost use Rattle.std.specs.Prelude.{◌≡◌};
 ghost use Rattle.lines.specs.Refusals.{told};
-ghost use Rattle.exports.specs.Bytes.{lines_of, number_of, refusal_in, Repeats, Settles, Outcome};
+ghost use Rattle.failure.specs.declared.Failure.TheVariants.{Refused};
+ghost use Rattle.exports.specs.declared.error.BytesRefusal.TheVariants.{Lines};
+ghost use Rattle.exports.specs.Bytes.{refusal_in, Repeats, Rewrites, Outcome, code_of};
 
-use crate::bytes::{decode, recolour};
+use crate::bytes::{are_whole, decode, recolour};
+use crate::error::{BytesError, BytesRefusal};
+use failure::Failure;
 use lines::arranger::Arranger;
 use lines::line::Line;
 use lines::refusal::ArrangeRefusal;
-use std::alloc::Global;
+use std::alloc::{AllocError, Global};
 
 // Has the arranger arrange the lines some times over; the first refusal ends it.
 fn repeat<A: Arranger>(
@@ -17,7 +20,7 @@ fn repeat<A: Arranger>(
     c: u8,
     times: u32,
 ) -> Result<(), ArrangeRefusal>
-    ensures refused { told result ≡ refusal_in times (A.Arranger.served c) c lines.old }
+    ensures refused { told result ≡ refusal_in times (A.served c) c lines.old }
     ensures lines { Repeats result times c lines.old lines.new }
 {
     for _done in 0..times {
@@ -26,53 +29,42 @@ fn repeat<A: Arranger>(
     Ok(())
 }
 
-// Puts the colours of arranged lines into the bytes, and tells a refusal by its number.
-fn settle(res: Result<(), ArrangeRefusal>, bytes: &mut [u8], lines: &[Line]) -> u8
-    requires { ends lines.now ≡ ends (lines_of bytes.old) }
-    ensures number { result ≡ number_of (told res) }
-    ensures bytes { Settles res lines.now bytes.old bytes.new }
+// The refusal of an arranger, as that of the bytes.
+fn refused(refusal: ArrangeRefusal) -> BytesError
+    ensures { result ≡ Refused (Lines refusal) }
 {
-    match res {
-        Ok(()) => {
-            recolour(bytes, lines);
-            0
-        }
-        Err(refusal) => refusal.number(),
-    }
+    Failure::Refused(BytesRefusal::Lines(refusal))
 }
 
-// Arranges the lines of the bytes, and puts their colours into the bytes.
-fn arrange_lines<A: Arranger>(
-    arranger: &mut A,
-    lines: &mut [Line],
-    bytes: &mut [u8],
-    c: u8,
-    times: u32,
-) -> u8
-    requires whole { length bytes.old % 5 ≡ 0 }
-    requires lines { lines.old ≡ lines_of bytes.old }
-    ensures { Outcome times (A.Arranger.served c) c bytes.old bytes.new result }
-{
-    let result = repeat(arranger, lines, c, times);
-    settle(result, bytes, lines)
-}
-
-// Arranges the lines of the bytes `times` times over. It answers 0, the number of the refusal, or 255 where the bytes are
-// no whole lines or there is no memory.
+// Arranges the lines of the bytes `times` times over, and puts their colours into the bytes.
 pub fn arrange_bytes<A: Arranger>(
     arranger: &mut A,
     heap: Global,
     bytes: &mut [u8],
     c: u8,
     times: u32,
-) -> u8
-    ensures { Outcome times (A.Arranger.served c) c bytes.old bytes.new result }
+) -> Result<(), BytesError>
+    ensures { Rewrites result times (A.served c) c bytes.old bytes.new }
 {
-    if bytes.len() % 5 != 0 {
-        return 255;
+    if !are_whole(bytes) {
+        return Err(Failure::Refused(BytesRefusal::BrokenLine));
     }
-    match decode(heap, bytes) {
-        Ok(mut lines) => arrange_lines(arranger, lines.as_mut_slice(), bytes, c, times),
-        Err(_) => 255,
-    }
+    let mut lines = decode(heap, bytes)?;
+    repeat(arranger, lines.as_mut_slice(), c, times).map_err(refused)?;
+    recolour(bytes, lines.as_slice());
+    Ok(())
+}
+
+// The same by an arranger that was only just made, if there was memory for it.
+pub(crate) fn arrange_by_new<A: Arranger + Drop>(
+    made: Result<A, AllocError>,
+    heap: Global,
+    bytes: &mut [u8],
+    c: u8,
+    times: u32,
+) -> Result<(), BytesError>
+    ensures { Outcome times (A.served c) c bytes.old bytes.new (code_of result) }
+{
+    let mut arranger = made?;
+    arrange_bytes(&mut arranger, heap, bytes, c, times)
 }

@@ -6,18 +6,19 @@ ghost use Rattle.kinds.specs.Headers.{headed_by};
 use crossbar::refusal::RouteRefusal;
 use ports::bytes::turn_byte;
 use ports::sizes::Sizes;
+use ports::transfer::Transfer;
 
 // From the sender's port to the port of the spine, from line to line at the spine, and out at the receiver's port.
 pub(crate) fn header_by(
     sizes: Sizes,
-    sender: u16,
-    receiver: u16,
+    transfer: Transfer,
     spine: u8,
     port: u16,
 ) -> Result<(u8, u8, u8), RouteRefusal>
-    ensures { told result ≡ headed_by sizes.m sizes.n sender receiver spine port }
+    ensures { told result ≡ headed_by sizes.m sizes.n transfer.sender transfer.receiver spine port }
 {
-    sizes.check_transfer(sender, receiver, spine)?;
+    sizes.check_transfer(transfer, spine)?;
+    let Transfer { sender, receiver } = transfer;
     let n = u16::from(sizes.n);
     Ok((
         turn_byte(sender % n, port),

@@ -1,7 +1,7 @@
 -- Steps of the tests for refusals, and what follows where no refusal is due.
-use Rattle.std.proofs.Common.{◌≡◌, ℕ, zero, suc, ◌+◌, ◌<◌, ◌≤◌, Bool, true, false, cond, ◌||◌, eqb, ltb, List, [], ◌∷◌, length, get_or, drop, Some, None, count_by, Option, sym, refl, ap, ◌∙◌, ⊎_elim, arith}
+use Rattle.std.proofs.Common.{◌≡◌, ℕ, zero, suc, ◌+◌, ◌<◌, ◌≤◌, Bool, true, false, cond, ◌||◌, eqb, ltb, List, [], ◌∷◌, length, get_or, Some, None, count_by, Option, sym, refl, ap, ◌∙◌, ⊎_elim, arith}
 use Rattle.std.proofs.lemmas.List.Sums.{sum_by-cons}
-use Rattle.std.proofs.lemmas.List.{drop_more, drop_all, get_or_default}
+use Rattle.std.proofs.lemmas.List.{get_or_default}
 use Rattle.std.proofs.lemmas.Bool.{lt-ltb, le-ltb, ltb-false, or_parts, cases_Bool, cases_lt, cond-true, cond-false, ne_eqb}
 use Rattle.lines.specs.declared.line.Line.{Line}
 use Rattle.lines.specs.declared.line.Side.{Side}
@@ -9,16 +9,7 @@ use Rattle.lines.specs.declared.line.Side.TheVariants.{Left, Right}
 use Rattle.lines.specs.Lines.{ends, on, degree, DegreesWithin, Inside}
 use Rattle.lines.specs.Refusals.{end_above, lowest_above, crowded, crowd_refusal, refusal_due}
 
--- one line is looked at, and all are
-pub above_here : (ls : List Line) (i : ℕ) (d : Line) → i < length ls → (ltb 511 (get_or ls i d).left || ltb 511 (get_or ls i d).right) ≡ true → end_above (drop i ls) ≡ true
-above_here ls i d l h = ap end_above (drop_more ls i d l) ∙ ap (λ (t : Bool). t || end_above (drop (i + 1) ls)) h
-
-pub above_more : (ls : List Line) (i : ℕ) (d : Line) → i < length ls → (ltb 511 (get_or ls i d).left || ltb 511 (get_or ls i d).right) ≡ false → end_above (drop (i + 1) ls) ≡ end_above (drop i ls)
-above_more ls i d l h = sym (ap end_above (drop_more ls i d l) ∙ ap (λ (t : Bool). t || end_above (drop (i + 1) ls)) h)
-
-pub above_all : (ls : List Line) (i : ℕ) → length ls ≤ i → end_above (drop i ls) ≡ false
-above_all ls i l = ap end_above (drop_all i ls l)
-
+-- the ends of lines none of whose ends is above 511
 pub inside_from : (ls : List Line) → end_above ls ≡ false → Inside (ends ls)
 inside_from [] h s k l = absurd (omega arith)
 inside_from (x ∷ ls) h Left zero l = omega (arith, ltb-false 511 x.left (or_parts (ltb 511 x.left) (ltb 511 x.right) (or_parts (ltb 511 x.left || ltb 511 x.right) (end_above ls) h).0).0)

@@ -116,18 +116,18 @@ module _ (s : Side) (ps : List (ℕ × ℕ)) (ns : List ℕ) (i w : ℕ) (li : i
           | inr under ↦ o ∙ cond-false (ltb c (get_or ns w 0 + 1)) (lower_of r w) r (le-ltb c (get_or ns w 0 + 1) under) ∙ e ∙ sym (stays under)
         ]
 
--- the end of the line at hand, and its place among the counts
-pub record Here (s : Side) (ls : List Line) (k : ℕ) (d : Line) (ns : List ℕ) : Type 0 where
+-- the end w of the line at hand, and its place among the counts
+pub record Here (s : Side) (ls : List Line) (k w : ℕ) (ns : List ℕ) : Type 0 where
   pub within : k < length (ends ls)
-  pub at : end_of s (get_or ls k d) ≡ end_at (ends ls) s k
-  pub low : end_of s (get_or ls k d) < 512
-  pub room : end_of s (get_or ls k d) < length ns
+  pub at : w ≡ end_at (ends ls) s k
+  pub low : w < 512
+  pub room : w < length ns
 
-pub here : (s : Side) (ls : List Line) (k : ℕ) (d : Line) (ns : List ℕ) → Inside (ends ls) → k < length ls → length ns ≡ 512 → Here s ls k d ns
-here s ls k d ns h l room =
+pub here : (s : Side) (ls : List Line) (k : ℕ) (d : Line) (w : ℕ) (ns : List ℕ) → w ≡ end_of s (get_or ls k d) → Inside (ends ls) → k < length ls → length ns ≡ 512 → Here s ls k w ns
+here s ls k d w ns e h l room =
     let lk : k < length (ends ls) = rw (length_ends ls) l in
-    let at : end_of s (get_or ls k d) ≡ end_at (ends ls) s k = sym (end_line ls s k d l) in
-    let low : end_of s (get_or ls k d) < 512 = rw at (h s k lk) in
+    let at : w ≡ end_at (ends ls) s k = e ∙ sym (end_line ls s k d l) in
+    let low : w < 512 = rw at (h s k lk) in
     record { within = lk; at = at; low = low; room = omega arith }
 
 -- counted lines are there to be taken out

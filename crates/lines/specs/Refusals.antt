@@ -1,5 +1,6 @@
 -- What a caller of an arranger is told of a refusal: its number, and the end that it is about, where it is about one.
-use Rattle.std.specs.Prelude.{ℕ, zero, suc, ◌+◌, Bool, false, cond, ◌||◌, List, [], ◌∷◌, length, Some, None, Ok, Err, Option, Result, nat_lt}
+use Rattle.std.specs.Prelude.{ℕ, zero, suc, ◌+◌, Bool, cond, ◌||◌, List, length, Some, None, Ok, Err, Option, Result, nat_lt}
+use Rattle.std.specs.List.{list_any}
 use Rattle.lines.specs.declared.line.Line.{Line}
 use Rattle.lines.specs.declared.line.Side.{Side}
 use Rattle.lines.specs.declared.line.Side.TheVariants.{Left, Right}
@@ -25,8 +26,14 @@ told (Err e) = Some (refusal e)
 
 -- some end is above 511
 abbrev pub end_above : List Line → Bool
-end_above [] = false
-end_above (l ∷ ls) = (nat_lt 511 l.left || nat_lt 511 l.right) || end_above ls
+end_above ls = list_any (λ l. nat_lt 511 l.left || nat_lt 511 l.right) ls
+
+-- the refusal of lines that is due whatever the colours, or none: 24 for too many lines, else 25 for an end that is too
+-- high
+abbrev pub bounds_refusal : List Line → Option Refusal
+bounds_refusal ls =
+    cond (nat_lt 1024 (length ls)) (Some (record { number = 24; end = None }))
+    (cond (end_above ls) (Some (record { number = 25; end = None })) None)
 
 -- the lowest of the n numbers from v on at which f is above c
 unfoldable pub lowest_above : (ℕ → ℕ) → ℕ → ℕ → ℕ → Option ℕ

@@ -7,7 +7,8 @@ use crate::line::Line;
 use crate::refusal::ArrangeRefusal;
 
 // An arranger colours lines. Its meaning is the fixed set of counts of colours that it serves, which belongs to the
-// type, and its meter, which counts the lines that it has arranged.
+// type, and its meter, which counts the lines that it has arranged. Each arranger tests the lines, colours them and grows
+// its meter itself: a step that colours tested lines would ask something of its caller, which no public function does.
 pub trait Arranger {
     // whether a count of colours is served
     ghost served: { ℕ → Bool };
@@ -44,8 +45,5 @@ pub trait Arranger {
 pub fn add_lines(meter: u32, count: usize) -> u32
     ensures { result ≡ grown meter count }
 {
-    match u32::try_from(count) {
-        Ok(count) => meter.saturating_add(count),
-        Err(_) => u32::MAX,
-    }
+    meter.saturating_add(u32::try_from(count).unwrap_or(u32::MAX))
 }

@@ -1,15 +1,17 @@
 // The tests that every arranger makes before it colours lines.
-ghost use Rattle.std.specs.Prelude.{◌≡◌, ℕ, ◌+◌, ◌<◌, ◌≤◌, ◌||◌, ltb, length, IfOk, if◌then◌else◌, vec_len, nat_lt, slice_index, slice_set};
-ghost use Rattle.lines.specs.Lines.{ends, Inside};
-ghost use Rattle.lines.specs.Refusals.{told, end_above, refusal_due};
+ghost use Rattle.std.specs.Prelude.{◌≡◌, ℕ, ◌+◌, ◌<◌, ◌≤◌, ltb, length, IfOk, if◌then◌else◌, vec_len, slice_index, slice_set};
+ghost use Rattle.lines.specs.Lines.{ends};
+ghost use Rattle.lines.specs.Refusals.{told, refusal_due};
 ghost use Rattle.lines.specs.Degrees.{Zero, Counts, lower_of, crowds};
 ghost use Rattle.lines.specs.declared.line.Side.TheVariants.{Left, Right};
 
+use crate::bounded::Bounded;
 use crate::line::{Line, Side};
 use crate::refusal::ArrangeRefusal;
 use std::alloc::{AllocError, Global};
 
-// Room to count the lines at each of the 512 ends of either side. It holds zeros between calls.
+// Room to count the lines at each of the 512 ends of either side. It holds zeros between calls. Both sides are counted
+// in one pass: with one table, for one side after the other, arrangements with few colours took up to a tenth longer.
 #[derive(Drop)]
 pub struct Degrees {
     left: Vec<u16>,
@@ -37,20 +39,16 @@ impl Degrees {
         Ok(Degrees { left, right })
     }
 
-    // The first refusal that is due, where one is; `served` says whether the arranger serves c colours.
+    // The first refusal that is due, where one is; `served` says whether the arranger serves c colours, which is tested
+    // first, here for every arranger.
     pub fn check(&mut self, lines: &[Line], served: bool, c: u8) -> Result<(), ArrangeRefusal>
         ensures { told result ≡ refusal_due served c lines.now }
     {
         if !served {
             return Err(ArrangeRefusal::NotServed);
         }
-        if lines.len() > 1024 {
-            return Err(ArrangeRefusal::TooManyLines);
-        }
-        if has_end_above(lines) {
-            return Err(ArrangeRefusal::EndAbove);
-        }
-        let crowds = self.crowds(lines, c);
+        let bounded = Bounded::new(lines)?;
+        let crowds = self.crowds(bounded, c);
         if let Some(end) = crowds.left {
             return Err(ArrangeRefusal::Crowded(Side::Left, end));
         }
@@ -61,54 +59,29 @@ impl Degrees {
     }
 
     // The lowest end of each side in which more than c lines stand.
-    fn crowds(&mut self, lines: &[Line], c: u8) -> Crowds
-        requires few { length lines.now ≤ 1024 }
-        requires inside { Inside (ends lines.now) }
-        ensures { result ≡ crowds c (ends lines.now) }
+    fn crowds(&mut self, bounded: Bounded<'_>, c: u8) -> Crowds
+        ensures { result ≡ crowds c (ends bounded.entry.lines.now) }
     {
         let left = self.left.as_mut_slice();
         let right = self.right.as_mut_slice();
-        let crowds = count(lines, c, left, right);
-        uncount(lines, left, right);
+        let crowds = count(bounded, c, left, right);
+        uncount(bounded, left, right);
         crowds
     }
 }
 
-// So many zeros.
+// So many zeros. No function makes tables of any type: they are made by clones, which need not equal their source.
 fn zeros(heap: Global, count: usize) -> Result<Vec<u16>, AllocError>
     ensures { IfOk result (λ v. (vec_len v ≡ count) × Zero v.items) }
 {
-    let zeros = vec![in heap; 0u16; count]?;
-    Ok(zeros)
-}
-
-// Whether an end of the line is above 511.
-fn is_above(line: Line) -> bool
-    ensures { result ≡ (nat_lt 511 line.left || nat_lt 511 line.right) }
-{
-    line.left > 511 || line.right > 511
-}
-
-// Whether some end is above 511.
-pub fn has_end_above(lines: &[Line]) -> bool
-    ensures { result ≡ end_above lines.now }
-{
-    for line in lines {
-        if is_above(*line) {
-            return true;
-        }
-    }
-    false
+    Ok(vec![in heap; 0u16; count]?)
 }
 
 // The lower of an end and the lowest so far.
 fn lower(lowest: Option<u16>, end: u16) -> Option<u16>
     ensures { result ≡ lower_of lowest end }
 {
-    match lowest {
-        Some(low) if low <= end => Some(low),
-        _ => Some(end),
-    }
+    Some(lowest.map_or(end, |low| low.min(end)))
 }
 
 // Counts a line at an end, and tells the lowest end so far in which more than c lines stand.
@@ -118,9 +91,9 @@ fn add(counts: &mut [u16], end: u16, c: u8, lowest: Option<u16>) -> Option<u16>
     ensures counts { counts.new ≡ slice_set counts.old end (slice_index counts.old end + 1) }
     ensures lowest { result ≡ (if ltb c (slice_index counts.old end + 1) then lower_of lowest end else lowest) }
 {
-    let degree = counts[end as usize] + 1;
-    counts[end as usize] = degree;
-    if degree > c as u16 {
+    let degree = counts[usize::from(end)] + 1;
+    counts[usize::from(end)] = degree;
+    if degree > u16::from(c) {
         lower(lowest, end)
     } else {
         lowest
@@ -128,20 +101,18 @@ fn add(counts: &mut [u16], end: u16, c: u8, lowest: Option<u16>) -> Option<u16>
 }
 
 // Counts the lines at each end, and tells the lowest end of each side in which more than c of them stand.
-fn count(lines: &[Line], c: u8, left: &mut [u16], right: &mut [u16]) -> Crowds
-    requires few { length lines.now ≤ 1024 }
-    requires inside { Inside (ends lines.now) }
+fn count(bounded: Bounded<'_>, c: u8, left: &mut [u16], right: &mut [u16]) -> Crowds
     requires left_room { length left.old ≡ 512 }
     requires right_room { length right.old ≡ 512 }
     requires left_zero { Zero left.old }
     requires right_zero { Zero right.old }
-    ensures left { Counts Left (ends lines.now) left.new }
-    ensures right { Counts Right (ends lines.now) right.new }
-    ensures crowds { result ≡ crowds c (ends lines.now) }
+    ensures left { Counts Left (ends bounded.entry.lines.now) left.new }
+    ensures right { Counts Right (ends bounded.entry.lines.now) right.new }
+    ensures crowds { result ≡ crowds c (ends bounded.entry.lines.now) }
 {
     let mut lowest_left = None;
     let mut lowest_right = None;
-    for line in lines {
+    for line in bounded.lines {
         lowest_left = add(left, line.left, c, lowest_left);
         lowest_right = add(right, line.right, c, lowest_right);
     }
@@ -152,16 +123,15 @@ fn count(lines: &[Line], c: u8, left: &mut [u16], right: &mut [u16]) -> Crowds
 }
 
 // Empties the counts again, at the ends of the lines.
-fn uncount(lines: &[Line], left: &mut [u16], right: &mut [u16])
-    requires inside { Inside (ends lines.now) }
+fn uncount(bounded: Bounded<'_>, left: &mut [u16], right: &mut [u16])
     requires left_room { length left.old ≡ 512 }
     requires right_room { length right.old ≡ 512 }
-    requires left { Counts Left (ends lines.now) left.old }
-    requires right { Counts Right (ends lines.now) right.old }
+    requires left { Counts Left (ends bounded.lines.now) left.old }
+    requires right { Counts Right (ends bounded.lines.now) right.old }
     ensures left { Zero left.new }
     ensures right { Zero right.new }
 {
-    for line in lines {
+    for line in bounded.lines {
         left[line.left as usize] = 0;
         right[line.right as usize] = 0;
     }

@@ -4,11 +4,13 @@
 //   line       a line and its two sides
 //   refusal    why lines are not arranged, by number
 //   arranger   the interface of an arranger, its meaning and its laws
+//   bounded    lines that are not too many, with no end too high
 //   degrees    the tests that every arranger makes before it colours
 //   theorem    how many colours suffice
 #![tactic(auto)]
 
 pub mod arranger;
+pub mod bounded;
 pub mod degrees;
 pub mod line;
 pub mod refusal;

@@ -1,8 +1,10 @@
 // Why lines are not arranged.
 ghost use Rattle.std.specs.Prelude.{◌≡◌};
+ghost use Rattle.failure.specs.declared.Failure.TheVariants.{Refused};
 ghost use Rattle.lines.specs.Refusals.{refusal};
 
 use crate::line::Side;
+use failure::Failure;
 
 // Each case holds the values that are told with its number; specs/Refusals.antt has the numbers.
 #[derive(Clone, Copy, PartialEq, Eq, Debug)]
@@ -18,7 +20,7 @@ pub enum ArrangeRefusal {
 }
 
 impl ArrangeRefusal {
-    // The number that the documents give the refusal.
+    // The number that the documents give the refusal. Cases with values have no discriminant to read.
     pub fn number(self) -> u8
         ensures { result ≡ (refusal self).number }
     {
@@ -38,5 +40,14 @@ impl ArrangeRefusal {
             ArrangeRefusal::Crowded(side, end) => Some((side, end)),
             _ => None,
         }
+    }
+}
+
+// Written by hand, since a derived one would not tell which case it gives.
+impl From<ArrangeRefusal> for Failure<ArrangeRefusal> {
+    ghost from_gives = { λ e r. r ≡ Refused e };
+
+    fn from(e: ArrangeRefusal) -> Failure<ArrangeRefusal> {
+        Failure::Refused(e)
     }
 }

@@ -4,6 +4,7 @@ ghost use Rattle.crossbar.specs.Refusals.{told};
 ghost use Rattle.ports.specs.Checks.{sizes_checked, sender_checked, transfer_checked};
 ghost use Rattle.ports.specs.Nodes.{is_node, place};
 
+use crate::transfer::Transfer;
 use crossbar::refusal::RouteRefusal;
 
 // m lines with n nodes on each, and n spine switches. Nodes are numbered line after line.
@@ -18,13 +19,13 @@ impl Sizes {
     pub fn check(self) -> Result<(), RouteRefusal>
         ensures { told result ≡ sizes_checked self.m self.n }
     {
-        if self.m < 1 || self.m > 32 {
+        if !(1..=32).contains(&self.m) {
             return Err(RouteRefusal::LineCount);
         }
-        match self.n {
-            1 | 2 | 4 | 8 | 16 => Ok(()),
-            _ => Err(RouteRefusal::NodeCount),
+        if !matches!(self.n, 1 | 2 | 4 | 8 | 16) {
+            return Err(RouteRefusal::NodeCount);
         }
+        Ok(())
     }
 
     // Whether a number is that of a node.
@@ -46,12 +47,12 @@ impl Sizes {
     }
 
     // The sizes, a sender and a receiver that are nodes, and a spine that is there.
-    pub fn check_transfer(self, sender: u16, receiver: u16, spine: u8) -> Result<(), RouteRefusal>
-        ensures { told result ≡ transfer_checked self.m self.n sender receiver spine }
+    pub fn check_transfer(self, transfer: Transfer, spine: u8) -> Result<(), RouteRefusal>
+        ensures { told result ≡ transfer_checked self.m self.n transfer.sender transfer.receiver spine }
     {
-        self.check_sender(sender)?;
-        if !self.is_node(receiver) {
-            return Err(RouteRefusal::Receiver(receiver));
+        self.check_sender(transfer.sender)?;
+        if !self.is_node(transfer.receiver) {
+            return Err(RouteRefusal::Receiver(transfer.receiver));
         }
         if spine >= self.n {
             return Err(RouteRefusal::Spine);
@@ -60,6 +61,7 @@ impl Sizes {
     }
 
     // The line of a node and its port there; none where it is not a node.
+    #[tactic(auto, using(crate::proofs::Places::line_below))]
     pub fn place(self, node: u16) -> Option<(u8, u16)>
         ensures { result ≡ place self.m self.n node }
     {

@@ -1,2 +1,2 @@
-mod Numbers
-mod Words
+pub mod Numbers
+pub mod Words

@@ -1,38 +1,48 @@
--- A number read digit by digit.
-use Rattle.std.proofs.Common.{◌≡◌, ℕ, ◌+◌, ◌*◌, ◌<◌, ◌≤◌, List, [], ◌∷◌, length, get_or, drop, Some, None, Option, sym, refl, ap, ◌∙◌, arith}
-use Rattle.std.proofs.lemmas.List.{at_drop_more, at_drop_all}
+-- A number that the library reads.
+use Rattle.std.proofs.Common.{◌≡◌, ℕ, ◌+◌, ◌-◌, ◌*◌, ◌^◌, ◌<◌, ◌≤◌, Bool, true, false, cond, eqb, eq-eqb, nat_le, ◌&&◌, List, [], ◌∷◌, length, get_or, Some, None, Ok, Err, Option, Result, sym, refl, ap, ◌∙◌, ⊎_elim, arith, rules}
+use Rattle.std.specs.Result.{result_ok, OkIff}
+use Rattle.std.specs.Str.{all_ascii_digits}
+use Rattle.std.specs.Str.Parse.{ParsesUnsigned}
+use Rattle.std.proofs.lemmas.Bool.{cases_lt}
 use Rattle.std.proofs.lemmas.Bool.Decides.{nat_tests}
-use Rattle.replies.specs.Arguments.{digit_of, spelled_on, at_most, number_in}
+use Rattle.std.proofs.lemmas.Str.Parse.{IsNumeralModel, numerals_by_fold, tells_all_ascii_digits, parse_plain}
+use Rattle.replies.specs.Arguments.{spelled_on, at_most, number_in}
 
--- a value past the limit stays past it
-too_large : (most v : ℕ) (bs : List ℕ) → most < v → at_most most (spelled_on v bs) ≡ None
-too_large most v [] h = grind (arith, nat_tests)
-too_large most v (b ∷ bs) h =
-    elim (digit_of b) as (λ (o : Option ℕ). at_most most (elim o as (λ _. Option ℕ) [ None ↦ None | Some d ↦ spelled_on (10 * v + d) bs ]) ≡ None)
-    [ None ↦ refl | Some d ↦ too_large most (10 * v + d) bs (omega arith) ]
+-- the value that digits go on to spell after one
+abbrev value_on : ℕ → List ℕ → ℕ
+value_on n bs = elim (spelled_on n bs) [ None ↦ 0 | Some v ↦ v ]
 
-some_digits : (most : ℕ) (bs : List ℕ) → 0 < length bs → number_in most bs ≡ at_most most (spelled_on 0 bs)
-some_digits most [] h = absurd (omega arith)
-some_digits most (b ∷ bs) h = refl
+-- digits spell their value, and other bytes spell nothing
+spelled : (n : ℕ) (bs : List ℕ) → spelled_on n bs ≡ cond (all_ascii_digits bs) (Some (value_on n bs)) None
+spelled n [] = refl
+spelled n (b ∷ bs) =
+    elim (nat_le 48 b && nat_le b 57) as (λ (t : Bool). (let on : Option ℕ = elim (cond t (Some (b - 48)) None) as (λ _. Option ℕ) [ None ↦ None | Some d ↦ spelled_on (10 * n + d) bs ] in
+    on ≡ cond (t && all_ascii_digits bs) (Some (elim on [ None ↦ 0 | Some v ↦ v ])) None))
+    [ true ↦ spelled (10 * n + (b - 48)) bs | false ↦ refl ]
 
-module _ (v : ℕ) (bs : List ℕ) (i : ℕ) (so_far : spelled_on v (drop i bs) ≡ spelled_on 0 bs) where
-  -- the value goes on by what stands at i
-  goes_on : (o : Option ℕ) → i < length bs → o ≡ digit_of (get_or bs i 0) → spelled_on 0 bs ≡ elim o [ None ↦ None | Some d ↦ spelled_on (10 * v + d) (drop (i + 1) bs) ]
-  goes_on o h e =
-      sym so_far ∙ at_drop_more (spelled_on v) bs i 0 h
-      ∙ ap (λ (o : Option ℕ). elim o as (λ _. Option ℕ) [ None ↦ None | Some d ↦ spelled_on (10 * v + d) (drop (i + 1) bs) ]) (sym e)
+own : IsNumeralModel (λ ds. all_ascii_digits ds ≡ true) (value_on 0)
+own = numerals_by_fold _ tells_all_ascii_digits value_on (search rules)
 
-  pub digit_more : (d : ℕ) → i < length bs → Some d ≡ digit_of (get_or bs i 0) → spelled_on (10 * v + d) (drop (i + 1) bs) ≡ spelled_on 0 bs
-  digit_more d h e = sym (goes_on (Some d) h e)
+within : (v : ℕ) → v < 2 ^ 16 → at_most 65535 (Some v) ≡ Some v
+within v h = grind (arith, nat_tests)
 
-  pub no_digit : (most : ℕ) → i < length bs → None ≡ digit_of (get_or bs i 0) → None ≡ number_in most bs
-  no_digit most h e = sym (some_digits most bs (omega arith) ∙ ap (at_most most) (goes_on None h e))
+past : (v : ℕ) → 2 ^ 16 ≤ v → at_most 65535 (Some v) ≡ None
+past v h = grind (arith, nat_tests)
 
-  pub all_read : (most : ℕ) → 0 < length bs → length bs ≤ i → v ≤ most → Some v ≡ number_in most bs
-  all_read most some h le =
-      let value : spelled_on 0 bs ≡ Some v = sym so_far ∙ at_drop_all (spelled_on v) bs i h in
-      let small : at_most most (Some v) ≡ Some v = grind (arith, nat_tests) in
-      sym (some_digits most bs some ∙ ap (at_most most) value ∙ small)
+module _ (b : ℕ) (bs : List ℕ) where
+  number : (t : Bool) → all_ascii_digits (b ∷ bs) ≡ t → number_in 65535 (b ∷ bs) ≡ at_most 65535 (cond t (Some (value_on 0 (b ∷ bs))) None)
+  number t e = ap (at_most 65535) (spelled 0 (b ∷ bs) ∙ ap (λ (t : Bool). cond t (Some (value_on 0 (b ∷ bs))) None) e)
 
-  pub past_limit : (most : ℕ) → 0 < length bs → most < v → None ≡ number_in most bs
-  past_limit most some h = sym (some_digits most bs some ∙ ap (at_most most) (sym so_far) ∙ too_large most v (drop i bs) h)
+  not_read : ((all_ascii_digits (b ∷ bs) ≡ true) × (0 < length (b ∷ bs)) × (value_on 0 (b ∷ bs) < 2 ^ 16) → ⊥) → (t : Bool) → all_ascii_digits (b ∷ bs) ≡ t → None ≡ number_in 65535 (b ∷ bs)
+  not_read n true e = ⊎_elim (λ l. absurd (n (e, omega arith, l))) (λ g. sym (number true e ∙ past (value_on 0 (b ∷ bs)) g)) (cases_lt (value_on 0 (b ∷ bs)) (2 ^ 16))
+  not_read n false e = sym (number false e)
+
+read_plain : {E : Type 0} (bs : List ℕ) (r : Result ℕ E) → OkIff r ((all_ascii_digits bs ≡ true) × (0 < length bs) × (value_on 0 bs < 2 ^ 16)) (value_on 0 bs) → result_ok r ≡ number_in 65535 bs
+read_plain [] (Ok x) k = absurd (omega (arith, k.0.1))
+read_plain (b ∷ bs) (Ok x) k = ap Some k.1 ∙ sym (number b bs true k.0.0 ∙ within (value_on 0 (b ∷ bs)) k.0.2)
+read_plain [] (Err e) k = refl
+read_plain (b ∷ bs) (Err e) k = not_read b bs k _ refl
+
+-- what the library reads of a text with no plus sign
+pub number_read : {E : Type 0} (bs : List ℕ) (r : Result ℕ E) → ParsesUnsigned 16 10 bs r → eqb (get_or bs 0 0) 43 ≡ false → result_ok r ≡ number_in 65535 bs
+number_read bs r h plain = read_plain bs r (parse_plain own 16 bs r h (λ e. let z : eqb (get_or bs 0 0) 43 ≡ true = eq-eqb _ _ e in cc))

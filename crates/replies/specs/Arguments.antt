@@ -47,12 +47,17 @@ query_of kind m n sender receiver =
                             elim (number_in 65535 receiver) [
                               | None ↦ Err Receiver
                               | Some r ↦
-                                  Ok (record { kind = k; sizes = record { m = lines; n = nodes }; sender = s; receiver = r })
+                                  Ok (record { kind = k; sizes = record { m = lines; n = nodes }; transfer = record { sender = s; receiver = r } })
                             ]
                       ]
                 ]
           ]
     ]
+
+-- what the words ask for, where there are exactly five
+unfoldable pub query_in : List (List ℕ) → Result Query Misuse
+query_in (kind ∷ m ∷ n ∷ sender ∷ receiver ∷ []) = query_of kind m n sender receiver
+query_in _ = Err Count
 
 abbrev pub misuse_text : Misuse → List ℕ
 misuse_text Count = codes "five arguments are wanted"

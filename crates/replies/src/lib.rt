@@ -4,5 +4,5 @@
 //   reply       what is printed in answer to them
 #![tactic(auto)]
 
-mod arguments;
+pub mod arguments;
 pub mod reply;

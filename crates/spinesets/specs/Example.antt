@@ -1,9 +1,10 @@
 -- The example permutation, and what its sets are.
 use Rattle.std.specs.Prelude.{◌≡◌, ℕ, List, [], ◌∷◌}
-use Rattle.spinesets.specs.declared.share.ShareError.{ShareError}
-use Rattle.spinesets.specs.declared.share.ShareError.TheVariants.{Refused, OutOfMemory}
-use Rattle.spinesets.specs.declared.transfer.Assigned.{Assigned}
-use Rattle.spinesets.specs.declared.transfer.Transfer.{Transfer}
+use Rattle.failure.specs.declared.Failure.{Failure}
+use Rattle.failure.specs.declared.Failure.TheVariants.{Refused, OutOfMemory}
+use Rattle.lines.specs.declared.refusal.ArrangeRefusal.{ArrangeRefusal}
+use Rattle.spinesets.specs.declared.assigned.Assigned.{Assigned}
+use Rattle.ports.specs.declared.transfer.Transfer.{Transfer}
 use Rattle.spinesets.specs.Sharing.{Shared}
 use Rattle.spinesets.specs.Text.{sets_text}
 
@@ -20,6 +21,6 @@ abbrev pub ExampleSets : List ℕ → Type 0
 ExampleSets text = (xs : List Assigned) × Shared 4 permutation xs × (text ≡ sets_text 4 xs)
 
 -- an error is no refusal
-abbrev pub NotRefused : ShareError → Type 0
+abbrev pub NotRefused : Failure ArrangeRefusal → Type 0
 NotRefused (Refused e) = ⊥
 NotRefused OutOfMemory = Unit {0}

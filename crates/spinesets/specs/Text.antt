@@ -1,6 +1,7 @@
 -- The sets of the spines as text.
-use Rattle.std.specs.Prelude.{ℕ, zero, suc, cond, List, [], ◌∷◌, ◌++◌, codes, decimal, ◌==◌}
-use Rattle.spinesets.specs.declared.transfer.Assigned.{Assigned}
+use Rattle.std.specs.Prelude.{ℕ, zero, suc, cond, List, [], ◌++◌, codes, decimal, ◌==◌}
+use Rattle.std.specs.List.{flat_map}
+use Rattle.spinesets.specs.declared.assigned.Assigned.{Assigned}
 
 -- a transfer in the set of spine j; nothing where it goes by another
 abbrev pub member : ℕ → Assigned → List ℕ
@@ -8,8 +9,7 @@ member j a = cond (a.spine == j) (codes " " ++ (decimal a.transfer.sender ++ (co
 
 -- the transfers that go by spine j, in order
 abbrev pub members : ℕ → List Assigned → List ℕ
-members j [] = []
-members j (a ∷ xs) = member j a ++ members j xs
+members j xs = flat_map (member j) xs
 
 -- the line of spine j
 abbrev pub set_line : ℕ → List Assigned → List ℕ

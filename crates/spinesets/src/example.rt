@@ -4,8 +4,9 @@ ghost use Rattle.spinesets.specs.Example.{NotRefused, ExampleSets};
 
 use crate::share::{ShareError, share_out};
 use crate::text::sets_text;
-use crate::transfer::Transfer;
+use failure::Failure;
 use lines::arranger::Arranger;
+use ports::transfer::Transfer;
 use std::alloc::{AllocError, Global};
 
 // Every node sends once and receives once.
@@ -76,7 +77,7 @@ fn no_memory(error: ShareError) -> AllocError
     requires { NotRefused error }
 {
     match error {
-        ShareError::Refused(_) => unreachable(),
-        ShareError::OutOfMemory => AllocError,
+        Failure::Refused(_) => unreachable(),
+        Failure::OutOfMemory => AllocError,
     }
 }

@@ -1,22 +1,10 @@
 // Which transfers go by which spine, as text.
 ghost use Rattle.std.specs.Prelude.{◌≡◌, IfOk, string_bytes};
-ghost use Rattle.spinesets.specs.Text.{member, members, set_line, sets_text};
+ghost use Rattle.spinesets.specs.Text.{members, set_line, sets_text};
 
-use crate::transfer::Assigned;
+use crate::assigned::Assigned;
+use ports::transfer::Transfer;
 use std::alloc::{AllocError, Global};
-
-// A transfer in the set of a spine; nothing where it goes by another.
-fn member(heap: Global, spine: u8, one: Assigned) -> Result<String, AllocError>
-    ensures { IfOk result (λ t. string_bytes t ≡ member spine one) }
-{
-    let sender = one.transfer.sender;
-    let receiver = one.transfer.receiver;
-    if one.spine == spine {
-        format!(in heap; " {sender}->{receiver}")
-    } else {
-        Ok(String::new(heap))
-    }
-}
 
 // The transfers that go by a spine, in order.
 fn members(heap: Global, spine: u8, assigned: &[Assigned]) -> Result<String, AllocError>
@@ -24,8 +12,10 @@ fn members(heap: Global, spine: u8, assigned: &[Assigned]) -> Result<String, All
 {
     let mut text = String::new(heap);
     for one in assigned {
-        let part = member(heap, spine, *one)?;
-        text.push_str(part.as_str())?;
+        if one.spine == spine {
+            let Transfer { sender, receiver } = one.transfer;
+            write!(text, " {sender}->{receiver}")?;
+        }
     }
     Ok(text)
 }
@@ -45,7 +35,7 @@ pub fn sets_text(heap: Global, spines: u8, assigned: &[Assigned]) -> Result<Stri
     let mut text = String::new(heap);
     for spine in 0..spines {
         let line = set_line(heap, spine, assigned)?;
-        text.push_str(line.as_str())?;
+        text.push_str(&line)?;
     }
     Ok(text)
 }

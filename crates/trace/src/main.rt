@@ -2,18 +2,17 @@
 // It ends with status 1 where there is nothing to trace.
 #![tactic(auto)]
 
-use replies::reply::reply_to;
+use replies::reply::{Reply, reply_to};
 use std::env;
 use std::process::ExitCode;
 
 fn main(rt: HostRuntime) -> anyhow::Result<ExitCode> {
     let heap = rt.alloc();
     let words: Vec<String> = env::args(&rt)?.skip(1).collect(heap)?;
-    let reply = reply_to(heap, words.as_slice())?;
-    rt.print(reply.text.as_str())?;
-    if reply.traced {
-        Ok(ExitCode::SUCCESS)
-    } else {
-        Ok(ExitCode::FAILURE)
-    }
+    let reply = reply_to(heap, &words)?;
+    rt.print(&reply)?;
+    Ok(match reply {
+        Reply::Trace(_) => ExitCode::SUCCESS,
+        Reply::Refused(_) | Reply::Usage(_) => ExitCode::FAILURE,
+    })
 }

@@ -1,2 +1,2 @@
-mod Deliveries
-mod Steps
+pub mod Deliveries
+pub mod Steps

@@ -1,5 +1,6 @@
 -- The text of a trace, over what any cabinet kind means.
-use Rattle.std.specs.Prelude.{ℕ, zero, suc, List, [], ◌∷◌, ◌++◌, Some, None, Ok, Err, codes, decimal, Result}
+use Rattle.std.specs.Prelude.{ℕ, zero, suc, List, [], ◌++◌, Some, None, Ok, Err, codes, decimal, Result}
+use Rattle.std.specs.List.{flat_map}
 use Rattle.crossbar.specs.declared.wires.Wire.{Wire}
 use Rattle.crossbar.specs.Refusals.{Refusal}
 use Rattle.crossbar.specs.Text.{hex, two_digits, wire_text, hop_text}
@@ -12,9 +13,9 @@ use Rattle.tracer.specs.Delivered.{delivered}
 abbrev pub crossing : Meaning → Wire → List ℕ
 crossing k w = elim (k.far_end w) [ None ↦ wire_text w ++ codes " -> nowhere, " | Some e ↦ hop_text (record { wire = w; end = e }) ++ codes ", " ]
 
+-- wires, one after the other
 abbrev pub crossings : Meaning → List Wire → List ℕ
-crossings k [] = []
-crossings k (w ∷ ws) = crossing k w ++ crossings k ws
+crossings k ws = flat_map (crossing k) ws
 
 -- the line of a spine: the spine, the header's three bytes, the wires and the node reached
 abbrev pub line_text : ℕ → ℕ × ℕ × ℕ → List ℕ → ℕ → List ℕ

@@ -5,4 +5,4 @@ use Rattle.euler.proofs.Pairing.{Cleared}
 use Rattle.euler.proofs.pairs.clear.Given as goal
 
 abbrev pub invariant-loop-line : goal.invariant-loop-line
-invariant-loop-line l = Cleared l.line-index (length l.lines) (end_at (ends l.lines) l.side) l.single
+invariant-loop-line l = Cleared l.line-index (length l.bounded.lines.now) (end_at (ends l.bounded.lines.now) l.side) l.single

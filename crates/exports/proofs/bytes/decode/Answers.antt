@@ -1,11 +1,11 @@
--- The open needs of decode.
-use Rattle.std.proofs.Common.{[], ◌∷◌, sym, ◌∙◌, arith}
-use Rattle.std.proofs.lemmas.Slice.{pushed}
-use Rattle.std.proofs.lemmas.List.FromFn.{map-range_with_len_more}
+-- The lines of each five bytes are the lines of the bytes.
+use Rattle.std.proofs.Common.{◌≡◌, map, ap, ◌∙◌, subst, IfOk}
 use Rattle.exports.specs.Bytes.{line_at}
+use Rattle.exports.proofs.Written.{lines_by_five}
 use Rattle.exports.proofs.bytes.decode.Goals as goal
 
-pub loop-i-preserved : goal.loop-i-preserved
-loop-i-preserved c =
-    pushed (c.line_at.result ∷ []) c.loop-i.invariant c.in_ok-push.was c.push.ensures.items
-    ∙ rw c.line_at.ensures (sym (map-range_with_len_more (line_at c.args.bytes.now) 0 c.loop-i.i c.loop-i.i (omega arith)))
+pub returns : goal.returns
+returns c =
+    subst (λ ls. IfOk c.as_lines.result (λ v. v.items ≡ ls))
+    (ap (map (λ cell. line_at cell 0)) c.as_chunks.ensures.front ∙ lines_by_five c.args.bytes.now)
+    c.as_lines.ensures

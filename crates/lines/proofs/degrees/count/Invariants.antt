@@ -8,5 +8,5 @@ use Rattle.lines.proofs.degrees.count.Given as goal
 
 abbrev pub invariant-loop-line : goal.invariant-loop-line
 invariant-loop-line l =
-    let ps = take l.line-index (ends l.lines) in
+    let ps = take l.line-index (ends l.bounded.lines.now) in
     Counts Left ps l.left × (l.lowest_left ≡ crowded Left l.c ps) × Counts Right ps l.right × (l.lowest_right ≡ crowded Right l.c ps)

@@ -7,5 +7,5 @@ use Rattle.lines.proofs.degrees.uncount.Given as goal
 
 abbrev pub invariant-loop-line : goal.invariant-loop-line
 invariant-loop-line l =
-    let ps = drop l.line-index (ends l.lines) in
+    let ps = drop l.line-index (ends l.bounded.lines.now) in
     Cleared Left ps l.left × Cleared Right ps l.right
