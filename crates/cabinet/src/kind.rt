@@ -21,8 +21,8 @@ fn eat(bytes: &[u8]) -> Result<(u8, &[u8]), RouteRefusal>
 }
 
 // A cabinet kind. An implementation gives its meaning, shows the two laws, and answers by its meaning; what a packet
-// does then follows for every kind alike. Sizes come with each call: a kind is
-// chosen once, and sizes are set again and again.
+// does then follows for every kind alike. Sizes come with each call: a kind is chosen once, and sizes are set again and
+// again.
 pub trait Cabinet {
     // What the kind means for each m and n: its wires, the exits that bytes name, its headers.
     ghost meaning: { ℕ → ℕ → Meaning };
