@@ -38,9 +38,13 @@ fn is_above(line: Line) -> bool
     line.left > 511 || line.right > 511
 }
 
-// Whether some end is above 511.
+// Whether some end is above 511. A loop that always goes on to the last line is quicker than one that may end early.
 pub fn has_end_above(lines: &[Line]) -> bool
     ensures { result ≡ end_above lines.now }
 {
-    lines.iter().any(|line| is_above(*line))
+    let mut above = false;
+    for line in lines {
+        above |= is_above(*line);
+    }
+    above
 }
