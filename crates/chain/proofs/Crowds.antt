@@ -1,19 +1,20 @@
 -- At an end where a line has no colour, fewer colours are in use than lines stand there.
-use Rattle.std.proofs.Common.{◌≡◌, ℕ, zero, suc, ◌<◌, ◌≤◌, Bool, true, false, ◌&&◌, eqb, ltb, cond, List, length, get_or, IsSome, is_some, Some, None, Option, sym, ap, ⊎_elim, ◌∙◌, arith}
+use Rattle.std.proofs.Common.{◌≡◌, ℕ, zero, suc, ◌<◌, ◌≤◌, Bool, true, false, ◌&&◌, eqb, ltb, cond, List, length, get_or, IfOk, OnErr, Some, None, Option, Result, sym, refl, ap, ◌∙◌, arith}
+use Rattle.std.specs.Option.{ok_or}
 use Rattle.std.proofs.lemmas.Bool.{lt-ltb, le-ltb, ltb-true, eq-eqb, and_from, and_parts, and_right, false≢true}
 use Rattle.lines.specs.declared.line.Line.{Line}
-use Rattle.lines.specs.Lines.{on, ends, end_at, DegreesWithin}
+use Rattle.lines.specs.Lines.{on, ends, end_at}
 use Rattle.lines.proofs.Places.{length_ends}
 use Rattle.lines.proofs.Count.{cnt, cnt_strict}
 use Rattle.lines.proofs.Pigeon.{count_by_cnt}
 use Rattle.chain.specs.declared.colour.Colour.{Colour}
+use Rattle.chain.specs.declared.colour.NoColour.{NoColour}
 use Rattle.chain.specs.declared.end.End.{End}
 use Rattle.chain.specs.declared.seats.Seats.{Seats}
 use Rattle.chain.specs.declared.colouring.Colouring.{Colouring}
-use Rattle.chain.specs.Palettes.{uses, Lowest}
+use Rattle.chain.specs.Palettes.{uses, UnusedBelow}
 use Rattle.chain.specs.Seats.{line_in}
-use Rattle.chain.specs.Colourings.{Consistent, Stands, Bare, FreeAt, colour_at, seats_at}
-use Rattle.chain.proofs.Paths.{none_or_some}
+use Rattle.chain.specs.Colourings.{Consistent, Stands, Bare, FreeBelow, Crowded, colour_at, seats_at}
 use Rattle.chain.proofs.Laws.{unused_free}
 
 -- a colour below a
@@ -52,28 +53,35 @@ module _ (e : ℕ → ℕ) (c : ℕ → Option ℕ) (n v : ℕ) where
       omega (arith, crowd r h, cnt_strict (stands r) (λ k. eqb (e k) v) n i (λ j m t. (and_parts (eqb (e j) v) (below (c j) r) t).0) l off (eq-eqb (e i) v ei))
 
 -- the line k has no colour at the end e, where the lines are t
-module _ (ls : List Line) (w : Colouring) (e : End) (k c : ℕ) (t : Seats) (is : t ≡ seats_at w e.side e.number) (h : Consistent (ends ls) w) (within : k < length ls) (bare : Bare w k) (stands : Stands (ends ls) k e)
-    (low : c ≤ 64) (degrees : DegreesWithin c (ends ls)) where
-  -- so fewer colours than c are in use there
-  few : (r : ℕ) → r ≤ 64 → ((b : ℕ) → b < r → uses t.palette.free b ≡ true) → r < c
-  unfolding Consistent Bare Stands
-  few r lr used =
+module _ (ls : List Line) (w : Colouring) (e : End) (k c : ℕ) (t : Seats) (is_seats : t ≡ seats_at w e.side e.number) (h : Consistent (ends ls) w) (within : k < length ls) (bare : Bare w k) (stands : Stands (ends ls) k e)
+    (low : c ≤ 64) where
+  -- if c colours are in use there, the end is crowded
+  all_used : ((b : ℕ) → b < 64 → b < c → uses t.palette.free b ≡ true) → Crowded c (ends ls)
+  unfolding Consistent Bare Stands Crowded
+  all_used used =
       let ps = ends ls in
-      let crowd : r < cnt (λ j. eqb (end_at ps e.side j) e.number) (length ps) =
-      crowded_end (end_at ps e.side) (colour_at w) (length ps) e.number r k (rw (length_ends ls) within) (sym stands) bare
+      let crowd : c < cnt (λ j. eqb (end_at ps e.side j) e.number) (length ps) =
+      crowded_end (end_at ps e.side) (colour_at w) (length ps) e.number c k (rw (length_ends ls) within) (sym stands) bare
       (λ b l.
       let j = get_or t.lines b 0 in
-      let q = h.agrees.line e.side e.number b j e.inside (omega arith) (ap (λ (s : Seats). line_in s b) (sym is) ∙ ap (λ (t : Bool). cond t (Some j) None) (used b l)) in
+      let q = h.agrees.line e.side e.number b j e.inside (omega arith) (ap (λ (s : Seats). line_in s b) (sym is_seats) ∙ ap (λ (t : Bool). cond t (Some j) None) (used b (omega arith) l)) in
       (j, h.within j b q.1, q.0, q.1)) in
-      omega (arith, crowd, count_by_cnt (λ p. eqb (on e.side p) e.number) ps (0, 0), degrees e.side e.number)
+      (e.side, e.number, omega (arith, crowd, count_by_cnt (λ p. eqb (on e.side p) e.number) ps (0, 0)))
 
-  module _ (o : Option Colour) (m : Lowest t.palette.free o) where
-    pub free_some : IsSome o
-    free_some =
-        ⊎_elim (λ (z : o ≡ None). absurd (omega (arith, few 64 (omega arith) (m.all z)))) (λ q. ap (λ (p : Option Colour). is_some p) q.1) (none_or_some o)
+  -- what the choice of one of the c colours gives
+  module _ (o : Option Colour) (m : UnusedBelow t.palette.free c o) (x : NoColour) where
+    pub chosen_free : (r : Result Colour NoColour) → r ≡ ok_or o x → IfOk r (FreeBelow c (ends ls) w e)
+    chosen_free r is = rw is (free o m)
+      where
+        free : (p : Option Colour) → UnusedBelow t.palette.free c p → IfOk (ok_or p x) (FreeBelow c (ends ls) w e)
+        free (Some a) n = record { below = n.below a refl; free = unused_free (ends ls) w e a t h is_seats (n.free a refl) }
+        free None n = tt
 
-    pub free_below : (r : Colour) → o ≡ Some r → r.number < c
-    free_below r z = few r.number (omega (arith, r.low)) (m.below r z)
+    pub none_crowded : (r : Result Colour NoColour) → r ≡ ok_or o x → OnErr r (Crowded c (ends ls))
+    none_crowded r is = rw is (crowded o m)
+      where
+        crowded : (p : Option Colour) → UnusedBelow t.palette.free c p → OnErr (ok_or p x) (Crowded c (ends ls))
+        crowded (Some a) n = tt
+        crowded None n = all_used (n.all refl)
 
-    pub free_here : (r : Colour) → o ≡ Some r → FreeAt (ends ls) w e r
-    free_here r z = unused_free (ends ls) w e r t h is (m.free r z)
+pub ruleset choosing = (chosen_free, none_crowded)

@@ -4,5 +4,6 @@ mod Crowds
 mod Laws
 mod Moving
 mod Paths
+mod Refused
 mod Steps
 mod Tables

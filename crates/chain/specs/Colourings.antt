@@ -4,7 +4,7 @@ use Rattle.std.specs.Prelude.{◌≡◌, ℕ, ◌+◌, ◌<◌, ◌≤◌, ◌�
 use Rattle.lines.specs.declared.line.Line.{Line}
 use Rattle.lines.specs.declared.line.Side.{Side}
 use Rattle.lines.specs.declared.line.Side.TheVariants.{Left, Right}
-use Rattle.lines.specs.Lines.{ends, colours, end_at}
+use Rattle.lines.specs.Lines.{ends, colours, end_at, degree}
 use Rattle.chain.specs.declared.colour.Colour.{Colour}
 use Rattle.chain.specs.declared.end.End.{End}
 use Rattle.chain.specs.declared.seats.Seats.{Seats}
@@ -69,6 +69,15 @@ FreeAt ps w e a = Free (end_at ps) (colour_at w) e.side e.number a.number
 -- the colour a is free at both ends of the line k
 unfoldable pub FreeFor : List (ℕ × ℕ) → Colouring → ℕ → Colour → Type 0
 FreeFor ps w k a = (s : Side) → Free (end_at ps) (colour_at w) s (end_at ps s k) a.number
+
+-- a colour below c that no line with the end e has
+pub record FreeBelow (c : ℕ) (ps : List (ℕ × ℕ)) (w : Colouring) (e : End) (a : Colour) : Type 0 where
+  pub below : a.number < c
+  pub free : FreeAt ps w e a
+
+-- some end stands in more than c lines
+unfoldable pub Crowded : ℕ → List (ℕ × ℕ) → Type 0
+Crowded c ps = (s : Side) × (v : ℕ) × (c < degree s v ps)
 
 -- a colour below c that is free at both ends of the line k
 pub record Shared (ps : List (ℕ × ℕ)) (w : Colouring) (k c : ℕ) (a : Colour) : Type 0 where

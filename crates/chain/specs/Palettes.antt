@@ -12,3 +12,9 @@ pub record Lowest (word : ℕ) (o : Option Colour) : Type 0 where
   pub all : o ≡ None → (a : ℕ) → a < 64 → uses word a ≡ true
   pub free : (r : Colour) → o ≡ Some r → uses word r.number ≡ false
   pub below : (r : Colour) → o ≡ Some r → (a : ℕ) → a < r.number → uses word a ≡ true
+
+-- o is a free colour below c, or none where all of these are in use
+pub record UnusedBelow (word c : ℕ) (o : Option Colour) : Type 0 where
+  pub all : o ≡ None → (a : ℕ) → a < 64 → a < c → uses word a ≡ true
+  pub free : (r : Colour) → o ≡ Some r → uses word r.number ≡ false
+  pub below : (r : Colour) → o ≡ Some r → r.number < c

@@ -13,15 +13,18 @@
 //   insert      the lines get their colours, which are written into them at the end
 #![tactic(auto)]
 
-ghost use Rattle.std.specs.Prelude.{◌≡◌, ◌^◌, ◌≤◌, IfOk, nat_le};
+ghost use Rattle.std.specs.Prelude.{◌≡◌, ◌^◌, ◌≤◌, true, IfOk, Some, nat_le};
 ghost use Rattle.chain.specs.Served.{chain_serves};
-ghost use Rattle.chain.specs.Colourings.{Empty};
+ghost use Rattle.chain.specs.Colourings.{Empty, Crowded};
+ghost use Rattle.lines.specs.Lines.{ends};
+ghost use Rattle.lines.specs.Refusals.{refusal, refusal_due};
 ghost use Rattle.std.proofs.Props.{props};
 ghost use Rattle.std.proofs.Common.{pow_pos, pow_mono, rules};
 ghost use Rattle.std.proofs.lemmas.Bool.{and_from, le-leb};
 
 use crate::colouring::Colouring;
 use lines::arranger::{Arranger, add_lines};
+use lines::bounded::Bounded;
 use lines::degrees::Degrees;
 use lines::line::Line;
 use lines::refusal::ArrangeRefusal;
@@ -53,6 +56,15 @@ fn is_served(c: u8) -> bool
     ensures { result ≡ chain_serves c }
 {
     (1..=64).contains(&c)
+}
+
+// Why lines are refused one of whose ends is crowded: the counts tell which end that is.
+#[tactic(auto, using(crate::proofs::Refused::crowd_err))]
+fn crowd_refusal(degrees: &mut Degrees, lines: &[Line], c: u8) -> ArrangeRefusal
+    requires crowded { Crowded c (ends lines.now) }
+    ensures { Some (refusal result) ≡ refusal_due true c lines.now }
+{
+    degrees.check(lines, true, c).unwrap_err()
 }
 
 impl Chain {
@@ -91,9 +103,15 @@ impl Arranger for Chain {
         self.meter
     }
 
+    #[tactic(auto, using(crate::proofs::Refused::arranged_accepted))]
     fn arrange(&mut self, lines: &mut [Line], c: u8) -> Result<(), ArrangeRefusal> {
-        self.degrees.check(lines, is_served(c), c)?;
-        self.colouring.colour(lines, c);
+        if !is_served(c) {
+            return Err(ArrangeRefusal::NotServed);
+        }
+        Bounded::new(lines)?;
+        if self.colouring.colour(lines, c).is_err() {
+            return Err(crowd_refusal(&mut self.degrees, lines, c));
+        }
         self.meter = add_lines(self.meter, lines.len());
         Ok(())
     }

@@ -1,6 +1,6 @@
 // Which of the 64 colours are in use at an end.
 ghost use Rattle.std.specs.Prelude.{◌≡◌, ℕ, ◌<◌, false, not, ◌&&◌, ◌||◌, ◌==◌};
-ghost use Rattle.chain.specs.Palettes.{uses, Lowest};
+ghost use Rattle.chain.specs.Palettes.{uses, Lowest, UnusedBelow};
 
 use crate::colour::Colour;
 
@@ -48,7 +48,7 @@ impl Palette {
 
     // The lowest free colour, where one is free.
     #[tactic(auto, using(crate::proofs::Bits::lowest))]
-    pub(crate) fn lowest_free(self) -> Option<Colour>
+    fn lowest_free(self) -> Option<Colour>
         ensures { Lowest self.free result }
     {
         let number = self.free.trailing_zeros() as u8;
@@ -57,6 +57,13 @@ impl Palette {
         } else {
             None
         }
+    }
+
+    // A free colour below a count, where one is free.
+    pub(crate) fn free_below(self, count: u8) -> Option<Colour>
+        ensures { UnusedBelow self.free count result }
+    {
+        self.lowest_free().filter(|colour| colour.number < count)
     }
 
     // The palette in which only the colours that are free in both are free.

@@ -7,7 +7,7 @@ use Rattle.lines.specs.declared.line.Line.{Line}
 use Rattle.lines.specs.declared.line.Side.{Side}
 use Rattle.lines.specs.declared.line.Side.TheVariants.{Left, Right}
 use Rattle.lines.specs.Lines.{ends, on, degree, DegreesWithin, Inside}
-use Rattle.lines.specs.Refusals.{end_above, lowest_above, crowded, crowd_refusal, refusal_due}
+use Rattle.lines.specs.Refusals.{end_above, bounds_refusal, lowest_above, crowded, crowd_refusal, refusal_due}
 
 -- the ends of lines none of whose ends is above 511
 pub inside_from : (ls : List Line) → end_above ls ≡ false → Inside (ends ls)
@@ -93,3 +93,10 @@ accepted true c ls e =
       inside = inside_from ls b.0;
       within = within_from c (ends ls) (inside_from ls b.0) d.0 d.1;
     }
+
+-- lines that are neither too many nor too high, and have no crowded end, are not refused
+pub not_refused : (c : ℕ) (ls : List Line) → bounds_refusal ls ≡ None → DegreesWithin c (ends ls) → refusal_due true c ls ≡ None
+not_refused c ls e h =
+    let a = cond_none (ltb 1024 (length ls)) _ (cond (end_above ls) (Some (record { number = 25; end = None })) None) e in
+    let b = cond_none (end_above ls) _ None a.1 in
+    rw (a.0, b.0, none_above (λ v. degree Left v (ends ls)) c 0 512 (λ u _ _. h Left u), none_above (λ v. degree Right v (ends ls)) c 0 512 (λ u _ _. h Right u)) refl

@@ -13,7 +13,7 @@ use Rattle.lines.proofs.Pigeon.{deg_pigeon, count_by_cnt}
 by_place : (s : Side) (ps : List (ℕ × ℕ)) (v : ℕ) → degree s v ps ≡ deg (end_at ps s) (length ps) v
 by_place s ps v = count_by_cnt (λ p. eqb (on s p) v) ps (0, 0)
 
-few_lines : (c : ℕ) (ps : List (ℕ × ℕ)) → Colourable c ps → DegreesWithin c ps
+pub few_lines : (c : ℕ) (ps : List (ℕ × ℕ)) → Colourable c ps → DegreesWithin c ps
 few_lines c ps h s v =
     rw (by_place s ps v)
     (deg_pigeon (end_at ps s) (λ i. get_or h.0 i 0) (length ps) c v (λ i l _. h.1.below i l)

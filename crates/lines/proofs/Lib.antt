@@ -6,4 +6,4 @@ pub mod Count
 pub mod Swap
 pub mod Colour
 pub mod Pigeon
-mod Exists
+pub mod Exists
