@@ -33,11 +33,7 @@ impl Euler {
     {
         let degrees = Degrees::new(heap)?;
         let splitter = Splitter::new(heap)?;
-        let room = vec![in heap; Line {
-            left: 0,
-            right: 0,
-            colour: 0
-        }; 12288]?;
+        let room = blank_lines(heap)?;
         Ok(Euler {
             degrees,
             splitter,
@@ -45,6 +41,18 @@ impl Euler {
             meter: 0,
         })
     }
+}
+
+// Room for two copies of 1,024 lines at each of six splits.
+fn blank_lines(heap: Global) -> Result<Vec<Line>, AllocError>
+    ensures { IfOk result (λ v. vec_len v ≡ 12288) }
+{
+    let blank = Line {
+        left: 0,
+        right: 0,
+        colour: 0,
+    };
+    Ok(vec![in heap; blank; 12288]?)
 }
 
 // Whether c is one of 1, 2, 4, 8, 16, 32 and 64.
