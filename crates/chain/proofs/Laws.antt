@@ -1,21 +1,22 @@
 -- How the lines lose and get colours. The proofs of functions go by these laws; a ruleset has those of one function.
-use Rattle.std.proofs.Common.{◌≡◌, ℕ, ◌+◌, ◌<◌, Bool, false, cond, List, length, get_or, set, is_some, MatchOption, Some, None, vec_items, count_by, Option, sym, refl, ap, ◌∙◌, ⊎_elim, arith}
-use Rattle.std.proofs.lemmas.List.Sums.{sum_by-set}
+use Rattle.std.proofs.Common.{◌≡◌, ℕ, ◌+◌, ◌<◌, ◌≤◌, ◌≢◌, Bool, false, cond, List, length, get_or, MatchOption, Some, None, Option, sym, refl, ap, ◌∙◌, ⊎_elim, arith}
 use Rattle.std.proofs.lemmas.Bool.{cases_eq}
 use Rattle.lines.specs.declared.line.Line.{Line}
 use Rattle.lines.specs.declared.line.Side.{Side}
 use Rattle.lines.specs.declared.line.Side.TheVariants.{Left, Right}
 use Rattle.lines.specs.Lines.{other, end_of, ends, end_at, Inside}
 use Rattle.lines.proofs.Places.{length_ends, end_line}
+use Rattle.lines.proofs.Count.{cnt}
 use Rattle.chain.specs.declared.colour.Colour.{Colour}
 use Rattle.chain.specs.declared.end.End.{End}
+use Rattle.chain.specs.declared.exchange.InHand.{InHand}
 use Rattle.chain.specs.declared.colouring.Colouring.{Colouring}
 use Rattle.chain.specs.declared.seats.Seats.{Seats}
 use Rattle.chain.specs.Palettes.{uses}
 use Rattle.chain.specs.Seats.{line_in}
-use Rattle.chain.specs.Colourings.{seats_at, Empty, coloured, Consistent, Stands, Bare, FreeAt, FreeFor, Found, Written, Stored, Repainted, Exchanged, Partly, number_of, colour_at, line_at}
-use Rattle.chain.proofs.Paths.{none_some, bare_here, free_ends, swap_step, swap_none, swap_bare, free_after}
-use Rattle.chain.proofs.Steps.{items_length, facts_apart, stored_tables, painted, lines_both, coloured_inside}
+use Rattle.chain.specs.Colourings.{seats_at, Empty, Consistent, Stands, Bare, FreeAt, FreeFor, Found, Written, Stored, Repainted, Exchanged, Joins, Held, LiftedAt, NoneAt, Stepped, Ended, Partly, colour_at, line_at}
+use Rattle.chain.proofs.Paths.{none_some, bare_free, bare_here, free_both, same_colour, Carried, carried_first, carried_last, carried_next, fewer_same, other_twice, swap_none, swap_bare, free_after}
+use Rattle.chain.proofs.Steps.{facts_apart, stored_tables, painted, lines_both, coloured_inside}
 use Rattle.chain.proofs.Tables.{lifted, laid, spare_free}
 
 -- the end of the line k on a side
@@ -72,20 +73,7 @@ module _ (w x y u : Colouring) (k : ℕ) (a : Colour) (l r : End) (st : Stored y
   unfolding Consistent FreeFor
   lift_freed ps h n has = bare_here (end_at ps) (colour_at w) (colour_at u) k a.number has (painted w x y u k a l r None None n st wr wl) (facts_apart ps w h)
 
-  pub lift_fewer : k < 1024 → colour_at w k ≡ Some a.number → coloured u < coloured w
-  unfolding coloured
-  lift_fewer n has =
-      let cs = vec_items w.colours in
-      let f : Option Colour → ℕ = λ o. cond (is_some o) 1 0 in
-      let e : vec_items u.colours ≡ set cs k None = st.colours ∙ ap (λ c. set (vec_items c) k None) (wr.colours ∙ wl.colours) in
-      let m : count_by (λ (o : Option Colour). is_some o) (vec_items u.colours) ≡ count_by (λ (o : Option Colour). is_some o) (set cs k None) = ap (count_by (λ (o : Option Colour). is_some o)) e in
-      omega (arith, sum_by-set f cs k None None (omega (arith, items_length w)), counted (get_or cs k None) a.number has)
-    where
-      counted : (o : Option Colour) (b : ℕ) → number_of o ≡ Some b → ◌≡◌ {A = ℕ} (cond (is_some o) 1 0) 1
-      counted (Some x) b e = refl
-      counted None b e = absurd (none_some None b refl e)
-
-pub ruleset lifting = (lift_consistent, lift_repainted, lift_freed, lift_fewer)
+pub ruleset lifting = (lift_consistent, lift_repainted, lift_freed)
 
 -- the line k, which has no colour, is given a, which is free at both of its ends
 module _ (w x y u : Colouring) (k : ℕ) (a : Colour) (l r : End) (st : Stored y u k (Some a)) (wr : Written x y r a (Some k)) (wl : Written w x l a (Some k)) where
@@ -107,34 +95,112 @@ module _ (w x y u : Colouring) (k : ℕ) (a : Colour) (l r : End) (st : Stored y
 
 pub ruleset laying = (lay_consistent, lay_repainted)
 
-pub swap_inward : (ps : List (ℕ × ℕ)) (u : Colouring) (a : Colour) (k : ℕ) (f : End) → FreeFor ps u k a → Stands ps k f → FreeAt ps u f a
-unfolding FreeFor Stands FreeAt
-swap_inward ps u a k f free is = rw is (free f.side)
+-- what becomes of the line that had the colour a at the end e, if any
+abbrev pub Lifting : List Line → Colouring → Colouring → End → Colour → Option ℕ → Type 0
+Lifting ls w u e a o = MatchOption o (NoneAt ls w u e a) (λ k. LiftedAt ls w u e a k)
 
--- the line k loses its colour (u), the exchange goes on at its other end f (x), and it gets b (y)
-module _ (ps : List (ℕ × ℕ)) (w u x : Colouring) (f : End) (a b : Colour) (k : ℕ) (r : Exchanged ps u x f b a) (p : Repainted w u k None) where
-  pub swap_bare_still : Bare x k
-  unfolding Exchanged Repainted Bare
-  swap_bare_still = swap_bare (end_at ps) (colour_at u) (colour_at x) f.side f.number b.number a.number k r p.new
+-- the line in hand gets its new colour; u is w after the next line, if any, has lost that colour
+module _ (ls : List Line) (w u : Colouring) (hand : InHand) (h : Held ls w hand) where
+  pub step_bare : (o : Option ℕ) → Lifting ls w u hand.far hand.new o → Bare u hand.line
+  unfolding Bare Repainted
+  step_bare None m = ap (λ x. colour_at x hand.line) m.same ∙ h.bare
+  step_bare (Some k) m =
+      ⊎_elim
+      (λ (z : hand.line ≡ k). ap (colour_at u) z ∙ m.repainted.new)
+      (λ (ne : hand.line ≡ k → ⊥). m.repainted.old hand.line ne ∙ h.bare)
+      (cases_eq hand.line k)
 
--- it had the colour a at the end e
-module _ (ls : List Line) (w u x : Colouring) (e f : End) (t : Side) (a b : Colour) (k : ℕ) (r : Exchanged (ends ls) u x f b a) (p : Repainted w u k None)
-    (h : Found ls w e a k) (free : FreeAt (ends ls) w e b) (across : t ≡ other e.side) (side : f.side ≡ t) (far : Stands (ends ls) k f) where
-  pub swap_free : FreeFor (ends ls) x k b
-  unfolding Exchanged Repainted FreeAt FreeFor Stands
-  swap_free =
-      free_ends (end_at (ends ls)) (colour_at w) (colour_at u) (colour_at x) e.side k a.number b.number h.has (rw h.stands at free) p (rw (far, side, across) at r)
+  pub step_free : (o : Option ℕ) → Lifting ls w u hand.far hand.new o → FreeFor (ends ls) u hand.line hand.new
+  unfolding FreeFor FreeAt Stands Repainted
+  step_free None m =
+      rw m.same (free_both (end_at (ends ls)) (colour_at w) hand.line hand.new.number hand.near.side (rw h.joins.from at h.free) (rw (h.joins.to, h.joins.across) at m.free))
+  step_free (Some k) m =
+      free_both (end_at (ends ls)) (colour_at u) hand.line hand.new.number hand.near.side
+      (bare_free (end_at (ends ls)) (colour_at w) (colour_at u) k hand.new.number m.found.has m.repainted hand.near.side (end_at (ends ls) hand.near.side hand.line) hand.new.number (rw h.joins.from at h.free))
+      (rw (sym m.found.stands ∙ h.joins.to, h.joins.across) at (m.freed hand.far.side))
 
-  pub swap_outward : (y : Colouring) → Repainted x y k (Some b) → Consistent (ends ls) w → Exchanged (ends ls) w y e a b
-  unfolding Exchanged Repainted FreeAt Stands Consistent
-  swap_outward y q i =
-      rw h.stands (swap_step (end_at (ends ls)) (colour_at w) (colour_at u) (colour_at x) e.side k a.number b.number h.has (rw h.stands at free) p (rw (far, side, across) at r) (colour_at y) (facts_apart (ends ls) w i) q)
+  pub step_last : (x : Colouring) → Lifting ls w u hand.far hand.new None → Repainted u x hand.line (Some hand.new) → Ended ls w x hand
+  step_last x m p = record { free = m.free; repainted = rw m.same at p }
 
-pub swap_nothing : (ps : List (ℕ × ℕ)) (w : Colouring) (e : End) (a b : Colour) → FreeAt ps w e a → Exchanged ps w w e a b
-unfolding FreeAt Exchanged
-swap_nothing ps w e a b free = swap_none (end_at ps) (colour_at w) e.side e.number a.number b.number free
+  pub step_on : (x : Colouring) (f : End) (k : ℕ) (o : Option ℕ) → Lifting ls w u hand.far hand.new o → o ≡ Some k → Repainted u x hand.line (Some hand.new) → Stands (ends ls) k f → f.side ≡ hand.near.side
+      → Stepped ls w x hand (record { line = k; near = hand.far; far = f; old = hand.new; new = hand.old })
+  unfolding Bare Repainted
+  step_on x f k o q z p to side =
+      let m : LiftedAt ls w u hand.far hand.new k = rw z at q in
+      let other_line : k ≢ hand.line = λ z. none_some (colour_at w k) hand.new.number (ap (colour_at w) z ∙ h.bare) m.found.has in
+      record {
+        found = m.found;
+        passed = record { new = p.new; gone = p.old k other_line ∙ m.repainted.new; old = λ i nk nj. p.old i nk ∙ m.repainted.old i nj };
+        joins = record { from = m.found.stands; to = to; across = side ∙ sym (ap other h.joins.across ∙ other_twice hand.near.side) };
+        near = refl;
+        old = refl;
+        new = refl;
+      }
 
-pub ruleset exchanging = (swap_inward, swap_bare_still, swap_free, swap_outward, swap_nothing)
+pub ruleset stepping = (step_bare, step_free, step_last, step_on)
+
+-- what a step leaves behind, with the line that is in hand from then on, if any
+abbrev pub Stepping : List Line → Colouring → Colouring → InHand → Option InHand → Type 0
+Stepping ls w u hand o = MatchOption o (Ended ls w u hand) (λ next. Stepped ls w u hand next)
+
+-- how far the exchange of a and b from the end e has come, when a line is in hand
+abbrev pub CarriedTo : List Line → Colouring → Colouring → End → Colour → Colour → InHand → Type 0
+CarriedTo ls w u e a b hand = Carried (end_at (ends ls)) (colour_at w) (colour_at u) e.side e.number a.number b.number hand.line hand.near.side hand.far.side hand.old.number hand.new.number
+
+-- the same, shut: the proofs of functions read only what a step asks for
+pub record Exchanging (ls : List Line) (w u : Colouring) (e : End) (a b : Colour) (hand : InHand) : Type 0 where
+  pub held : Held ls u hand
+  carried : CarriedTo ls w u e a b hand
+
+exchange_now : (ls : List Line) (w u : Colouring) (e : End) (a b : Colour) (hand : InHand) → hand.line < length ls → Joins (ends ls) hand.line hand.near hand.far → CarriedTo ls w u e a b hand → Exchanging ls w u e a b hand
+unfolding Bare FreeAt Stands
+exchange_now ls w u e a b hand within joins c = record { held = record { within = within; joins = joins; bare = c.bare; free = rw joins.from c.near }; carried = c }
+
+-- how many lines have the colour that they had at first
+unfoldable pub unchanged : Colouring → Colouring → ℕ
+unchanged w u = cnt (λ k. same_colour (colour_at w k) (colour_at u k)) 1024
+
+below : (k m n : ℕ) → k < m → m ≤ n → k < n
+below k m n l le = omega arith
+
+-- the line k, at which the path begins, is in hand, and f is its far end
+pub exchange_begun : (ls : List Line) (w u : Colouring) (e f : End) (t : Side) (a b : Colour) (k : ℕ) → Lifting ls w u e a (Some k) → Consistent (ends ls) w → FreeAt (ends ls) w e b → Stands (ends ls) k f → t ≡ other e.side → f.side ≡ t
+    → Exchanging ls w u e a b (record { line = k; near = e; far = f; old = a; new = b })
+unfolding Consistent FreeAt Stands Repainted
+exchange_begun ls w u e f t a b k m i free to across side =
+    exchange_now ls w u e a b (record { line = k; near = e; far = f; old = a; new = b }) m.found.within (record { from = m.found.stands; to = to; across = side ∙ across })
+    (rw (side ∙ across, m.found.stands) (
+    carried_first (end_at (ends ls)) (colour_at w) (colour_at u) e.side a.number b.number k m.found.has m.repainted (facts_apart (ends ls) w i) (rw m.found.stands at free)))
+
+module _ (ls : List Line) (w u : Colouring) (e : End) (a b : Colour) where
+  pub exchange_nothing : NoneAt ls w u e a → Exchanged (ends ls) w u e a b
+  unfolding Exchanged FreeAt
+  exchange_nothing m = rw m.same (swap_none (end_at (ends ls)) (colour_at w) e.side e.number a.number b.number m.free)
+
+  module _ (x : Colouring) (hand : InHand) (h : Exchanging ls w u e a b hand) where
+    pub exchange_ended : Ended ls u x hand → FreeAt (ends ls) w e b → Exchanged (ends ls) w x e a b
+    unfolding Exchanged FreeAt Repainted
+    exchange_ended m free = carried_last h.carried (colour_at x) free m.repainted
+
+    module _ (next : InHand) (m : Stepping ls u x hand (Some next)) (i : Consistent (ends ls) w) (j : Consistent (ends ls) u) where
+      meets : end_at (ends ls) hand.far.side next.line ≡ end_at (ends ls) hand.far.side hand.line
+      unfolding Stands
+      meets = sym m.found.stands ∙ h.held.joins.to
+
+      pub exchange_goes_on : FreeAt (ends ls) w e b → Exchanging ls w x e a b next
+      unfolding Consistent FreeAt
+      exchange_goes_on free =
+          let back : other hand.far.side ≡ hand.near.side = ap other h.held.joins.across ∙ other_twice hand.near.side in
+          exchange_now ls w x e a b next m.found.within m.joins
+          (rw (m.joins.across, m.near, m.old, m.new, back) (
+          carried_next h.carried (colour_at x) next.line (facts_apart (ends ls) w i) (facts_apart (ends ls) u j) m.found.has meets m.passed free))
+
+      pub exchange_smaller : length ls ≤ 1024 → unchanged w x < unchanged w u
+      unfolding unchanged Consistent
+      exchange_smaller few =
+          fewer_same h.carried (colour_at x) next.line (facts_apart (ends ls) w i) (facts_apart (ends ls) u j) m.found.has meets m.passed 1024 (below next.line (length ls) 1024 m.found.within few)
+
+pub ruleset exchanging = (exchange_nothing, exchange_begun, exchange_ended, exchange_goes_on, exchange_smaller)
 
 -- the line i is the first without a colour
 pub insert_bare : (w : Colouring) (c i : ℕ) → Partly c i w → Bare w i

@@ -12,7 +12,7 @@ use Rattle.chain.specs.Exchanges.{Apart, Painted, Agrees}
 use Rattle.chain.specs.Colourings.{no_seats, number_of, colour_at, line_at, place_of, Facts, Written, Stored}
 use Rattle.chain.proofs.Tables.{agrees_apart, Both, both}
 
-pub items_length : (w : Colouring) → length (vec_items w.colours) ≡ 1024
+items_length : (w : Colouring) → length (vec_items w.colours) ≡ 1024
 items_length w = sym w.colours.ok.0 ∙ w.each_line
 
 pub facts_apart : (ps : List (ℕ × ℕ)) (w : Colouring) → Facts ps w → Apart (end_at ps) (colour_at w)

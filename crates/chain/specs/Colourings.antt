@@ -1,16 +1,17 @@
 -- The work space of the chain arranger beside the lines with the ends ps. What is unfoldable stays shut in the proofs of
 -- functions, which go by the laws of proofs/Laws.antt.
-use Rattle.std.specs.Prelude.{◌≡◌, ℕ, ◌+◌, ◌<◌, ◌≤◌, ◌⊎◌, ◌≢◌, List, length, replicate, is_some, Some, None, vec_items, count_by, Option, option_map, slice_index, slice_index_or, slice_set}
+use Rattle.std.specs.Prelude.{◌≡◌, ℕ, ◌+◌, ◌<◌, ◌≤◌, ◌⊎◌, ◌≢◌, List, length, replicate, Some, None, vec_items, Option, option_map, slice_index, slice_index_or, slice_set}
 use Rattle.lines.specs.declared.line.Line.{Line}
 use Rattle.lines.specs.declared.line.Side.{Side}
 use Rattle.lines.specs.declared.line.Side.TheVariants.{Left, Right}
-use Rattle.lines.specs.Lines.{ends, colours, end_at, degree}
+use Rattle.lines.specs.Lines.{other, ends, colours, end_at, degree}
 use Rattle.chain.specs.declared.colour.Colour.{Colour}
 use Rattle.chain.specs.declared.end.End.{End}
+use Rattle.chain.specs.declared.exchange.InHand.{InHand}
 use Rattle.chain.specs.declared.seats.Seats.{Seats}
 use Rattle.chain.specs.declared.colouring.Colouring.{Colouring}
 use Rattle.chain.specs.Seats.{line_in}
-use Rattle.chain.specs.Exchanges.{Free, Swap, Painted, Changed, Agrees}
+use Rattle.chain.specs.Exchanges.{Free, Swap, Painted, Passed, Changed, Agrees}
 
 -- the place of the end v of a side in the work space
 abbrev pub place_of : Side → ℕ → ℕ
@@ -40,10 +41,6 @@ line_at w s v a = line_in (seats_at w s v) a
 -- no line has a colour, and none has one at any end
 abbrev pub Empty : Colouring → Type 0
 Empty w = ((k : ℕ) → colour_at w k ≡ None) × ((e : End) (a : Colour) → line_at w e.side e.number a.number ≡ None)
-
--- how many lines have a colour
-unfoldable pub coloured : Colouring → ℕ
-coloured w = count_by (λ o. is_some o) (vec_items w.colours)
 
 -- what the work space tells of lines with the ends ps is so
 pub record Facts (ps : List (ℕ × ℕ)) (w : Colouring) : Type 0 where
@@ -113,6 +110,44 @@ Repainted w u k o = Painted (colour_at w) (colour_at u) k (number_of o)
 -- the exchange of a and b along the path that begins at the end e
 unfoldable pub Exchanged : List (ℕ × ℕ) → Colouring → Colouring → End → Colour → Colour → Type 0
 Exchanged ps w u e a b = Swap (end_at ps) (colour_at w) (colour_at u) e.side e.number a.number b.number
+
+-- the line k joins the ends e and f
+pub record Joins (ps : List (ℕ × ℕ)) (k : ℕ) (e f : End) : Type 0 where
+  pub from : Stands ps k e
+  pub to : Stands ps k f
+  pub across : f.side ≡ other e.side
+
+-- the line in hand has no colour, and its new one is free at its near end
+pub record Held (ls : List Line) (w : Colouring) (hand : InHand) : Type 0 where
+  pub within : hand.line < length ls
+  pub joins : Joins (ends ls) hand.line hand.near hand.far
+  pub bare : Bare w hand.line
+  pub free : FreeAt (ends ls) w hand.near hand.new
+
+-- the line k had the colour a at the end e; it has lost it, and a is free at both of its ends
+pub record LiftedAt (ls : List Line) (w u : Colouring) (e : End) (a : Colour) (k : ℕ) : Type 0 where
+  pub found : Found ls w e a k
+  pub repainted : Repainted w u k None
+  pub freed : FreeFor (ends ls) u k a
+
+-- no line had the colour a at the end e, and all is as it was
+pub record NoneAt (ls : List Line) (w u : Colouring) (e : End) (a : Colour) : Type 0 where
+  pub free : FreeAt (ends ls) w e a
+  pub same : u ≡ w
+
+-- the line in hand has its new colour; the line that had that colour at the far end has lost it and is in hand next
+pub record Stepped (ls : List Line) (w u : Colouring) (hand next : InHand) : Type 0 where
+  pub found : Found ls w hand.far hand.new next.line
+  pub passed : Passed (colour_at w) (colour_at u) hand.line next.line hand.new.number
+  pub joins : Joins (ends ls) next.line next.near next.far
+  pub near : next.near ≡ hand.far
+  pub old : next.old ≡ hand.new
+  pub new : next.new ≡ hand.old
+
+-- the line in hand has its new colour, which no line had at the far end
+pub record Ended (ls : List Line) (w u : Colouring) (hand : InHand) : Type 0 where
+  pub free : FreeAt (ends ls) w hand.far hand.new
+  pub repainted : Repainted w u hand.line (Some hand.new)
 
 -- the first i lines have colours below c, the others none
 pub record Partly (c i : ℕ) (w : Colouring) : Type 0 where

@@ -1,5 +1,5 @@
 -- Lines with colours, some without: what is free at an end, and the exchange of two colours along a path.
-use Rattle.std.specs.Prelude.{◌≡◌, ℕ, ◌<◌, ◌⊎◌, Some, Option, ◌≢◌}
+use Rattle.std.specs.Prelude.{◌≡◌, ℕ, ◌<◌, ◌⊎◌, Some, None, Option, ◌≢◌}
 use Rattle.lines.specs.declared.line.Side.{Side}
 use Rattle.lines.specs.Lines.{other}
 
@@ -23,6 +23,12 @@ Apart e c = (s : Side) (i j a : ℕ) → c i ≡ Some a → c j ≡ Some a → e
 pub record Painted (c d : Colours) (k : ℕ) (o : Option ℕ) : Type 0 where
   pub new : d k ≡ o
   pub old : (j : ℕ) → (j ≢ k) → d j ≡ c j
+
+-- d is c with the colour a at the line k and none at the line j
+pub record Passed (c d : Colours) (k j a : ℕ) : Type 0 where
+  pub new : d k ≡ Some a
+  pub gone : d j ≡ None
+  pub old : (i : ℕ) → (i ≢ k) → (i ≢ j) → d i ≡ c i
 
 -- one of two colours
 abbrev pub Among : ℕ → ℕ → Option ℕ → Type 0

@@ -1,7 +1,7 @@
 // A line loses its colour or gets one, and two colours change places along a path.
-ghost use Rattle.std.specs.Prelude.{◌≡◌, ◌<◌, length, Some, None};
+ghost use Rattle.std.specs.Prelude.{◌≡◌, ◌<◌, length, Some, None, MatchOption};
 ghost use Rattle.lines.specs.Lines.{ends};
-ghost use Rattle.chain.specs.Colourings.{colour_at, coloured, Consistent, Bare, FreeAt, FreeFor, Stored, Repainted, Exchanged};
+ghost use Rattle.chain.specs.Colourings.{colour_at, Consistent, Bare, FreeAt, FreeFor, Stored, Repainted, Exchanged, Held, LiftedAt, NoneAt, Stepped, Ended};
 
 use crate::colour::Colour;
 use crate::colouring::Colouring;
@@ -9,6 +9,17 @@ use crate::end::End;
 use crate::seating::end_of;
 use lines::bounded::Bounded;
 use lines::line::Side;
+
+// A line in hand, while two colours change places along a path: it has lost its old colour and is to get the new one.
+// The path came to it at its near end, where the new colour is free, and goes on at its far end, where the old one is.
+#[derive(Clone, Copy)]
+pub(crate) struct InHand {
+    line: usize,
+    near: End,
+    far: End,
+    old: Colour,
+    new: Colour,
+}
 
 impl Colouring {
     // Writes the colour of the line k, or none.
@@ -28,7 +39,6 @@ impl Colouring {
         ensures consistent { Consistent (ends bounded.entry.lines.now) self.new }
         ensures repainted { Repainted self.old self.new k None }
         ensures freed { FreeFor (ends bounded.entry.lines.now) self.new k colour }
-        ensures fewer { coloured self.new < coloured self.old }
     {
         let left = end_of(bounded, k, Side::Left);
         let right = end_of(bounded, k, Side::Right);
@@ -54,6 +64,42 @@ impl Colouring {
         self.paint(k, Some(colour));
     }
 
+    // Takes the colour away from the line that has it at the end.
+    fn lift_at(&mut self, bounded: Bounded<'_>, end: End, colour: Colour) -> Option<usize>
+        requires { Consistent (ends bounded.lines.now) self.old }
+        ensures consistent { Consistent (ends bounded.entry.lines.now) self.new }
+        ensures lifted { MatchOption result
+            (NoneAt bounded.entry.lines.now self.old self.new end colour)
+            (λ k. LiftedAt bounded.entry.lines.now self.old self.new end colour k) }
+    {
+        let line = self.find(bounded, end, colour)?;
+        self.lift(bounded, line, colour);
+        Some(line)
+    }
+
+    // The line in hand gets its new colour. Where another line has that colour at the far end, that line is in hand next.
+    #[tactic(auto, using(crate::proofs::Laws::stepping))]
+    fn step(&mut self, bounded: Bounded<'_>, hand: InHand) -> Option<InHand>
+        requires consistent { Consistent (ends bounded.lines.now) self.old }
+        requires held { Held bounded.lines.now self.old hand }
+        ensures consistent { Consistent (ends bounded.entry.lines.now) self.new }
+        ensures stepped { MatchOption result
+            (Ended bounded.entry.lines.now self.old self.new hand)
+            (λ next. Stepped bounded.entry.lines.now self.old self.new hand next) }
+    {
+        let next = self.lift_at(bounded, hand.far, hand.new);
+        self.lay(bounded, hand.line, hand.new);
+        let line = next?;
+        let far = end_of(bounded, line, hand.near.side);
+        Some(InHand {
+            line,
+            near: hand.far,
+            far,
+            old: hand.new,
+            new: hand.old,
+        })
+    }
+
     // Exchanges a and b along the path of these colours that begins at the end, so that a is free there.
     #[tactic(auto, using(crate::proofs::Laws::exchanging))]
     pub(crate) fn swap(&mut self, bounded: Bounded<'_>, end: End, a: Colour, b: Colour)
@@ -62,12 +108,18 @@ impl Colouring {
         ensures consistent { Consistent (ends bounded.entry.lines.now) self.new }
         ensures exchanged { Exchanged (ends bounded.entry.lines.now) self.old self.new end a b }
     {
-        if let Some(k) = self.find(bounded, end, a) {
-            let across = end.side.opposite();
-            let far = end_of(bounded, k, across);
-            self.lift(bounded, k, a);
-            self.swap(bounded, far, b, a);
-            self.lay(bounded, k, b);
+        if let Some(line) = self.lift_at(bounded, end, a) {
+            let far = end_of(bounded, line, end.side.opposite());
+            let mut hand = InHand {
+                line,
+                near: end,
+                far,
+                old: a,
+                new: b,
+            };
+            while let Some(next) = self.step(bounded, hand) {
+                hand = next;
+            }
         }
     }
 }
