@@ -10,11 +10,11 @@ use Rattle.lines.proofs.Pigeon.{count_by_cnt}
 use Rattle.chain.specs.declared.colour.Colour.{Colour}
 use Rattle.chain.specs.declared.colour.NoColour.{NoColour}
 use Rattle.chain.specs.declared.end.End.{End}
-use Rattle.chain.specs.declared.seats.Seats.{Seats}
+use Rattle.chain.specs.declared.slots.Slots.{Slots}
 use Rattle.chain.specs.declared.colouring.Colouring.{Colouring}
 use Rattle.chain.specs.Palettes.{uses, UnusedBelow}
-use Rattle.chain.specs.Seats.{line_in}
-use Rattle.chain.specs.Colourings.{Consistent, Stands, Bare, FreeBelow, Crowded, colour_at, seats_at}
+use Rattle.chain.specs.Slots.{line_in}
+use Rattle.chain.specs.Colourings.{Consistent, Stands, Bare, FreeBelow, Crowded, colour_at, slots_at}
 use Rattle.chain.proofs.Laws.{unused_free}
 
 -- a colour below a
@@ -53,7 +53,7 @@ module _ (e : ℕ → ℕ) (c : ℕ → Option ℕ) (n v : ℕ) where
       omega (arith, crowd r h, cnt_strict (stands r) (λ k. eqb (e k) v) n i (λ j m t. (and_parts (eqb (e j) v) (below (c j) r) t).0) l off (eq-eqb (e i) v ei))
 
 -- the line k has no colour at the end e, where the lines are t
-module _ (ls : List Line) (w : Colouring) (e : End) (k c : ℕ) (t : Seats) (is_seats : t ≡ seats_at w e.side e.number) (h : Consistent (ends ls) w) (within : k < length ls) (bare : Bare w k) (stands : Stands (ends ls) k e)
+module _ (ls : List Line) (w : Colouring) (e : End) (k c : ℕ) (t : Slots) (is_slots : t ≡ slots_at w e.side e.number) (h : Consistent (ends ls) w) (within : k < length ls) (bare : Bare w k) (stands : Stands (ends ls) k e)
     (low : c ≤ 64) where
   -- if c colours are in use there, the end is crowded
   all_used : ((b : ℕ) → b < 64 → b < c → uses t.palette.free b ≡ true) → Crowded c (ends ls)
@@ -64,7 +64,7 @@ module _ (ls : List Line) (w : Colouring) (e : End) (k c : ℕ) (t : Seats) (is_
       crowded_end (end_at ps e.side) (colour_at w) (length ps) e.number c k (rw (length_ends ls) within) (sym stands) bare
       (λ b l.
       let j = get_or t.lines b 0 in
-      let q = h.agrees.line e.side e.number b j e.inside (omega arith) (ap (λ (s : Seats). line_in s b) (sym is_seats) ∙ ap (λ (t : Bool). cond t (Some j) None) (used b (omega arith) l)) in
+      let q = h.agrees.line e.side e.number b j e.inside (omega arith) (ap (λ (s : Slots). line_in s b) (sym is_slots) ∙ ap (λ (t : Bool). cond t (Some j) None) (used b (omega arith) l)) in
       (j, h.within j b q.1, q.0, q.1)) in
       (e.side, e.number, omega (arith, crowd, count_by_cnt (λ p. eqb (on e.side p) e.number) ps (0, 0)))
 
@@ -74,7 +74,7 @@ module _ (ls : List Line) (w : Colouring) (e : End) (k c : ℕ) (t : Seats) (is_
     chosen_free r is = rw is (free o m)
       where
         free : (p : Option Colour) → UnusedBelow t.palette.free c p → IfOk (ok_or p x) (FreeBelow c (ends ls) w e)
-        free (Some a) n = record { below = n.below a refl; free = unused_free (ends ls) w e a t h is_seats (n.free a refl) }
+        free (Some a) n = record { below = n.below a refl; free = unused_free (ends ls) w e a t h is_slots (n.free a refl) }
         free None n = tt
 
     pub none_crowded : (r : Result Colour NoColour) → r ≡ ok_or o x → OnErr r (Crowded c (ends ls))

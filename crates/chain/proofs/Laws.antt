@@ -11,10 +11,10 @@ use Rattle.chain.specs.declared.colour.Colour.{Colour}
 use Rattle.chain.specs.declared.end.End.{End}
 use Rattle.chain.specs.declared.exchange.InHand.{InHand}
 use Rattle.chain.specs.declared.colouring.Colouring.{Colouring}
-use Rattle.chain.specs.declared.seats.Seats.{Seats}
+use Rattle.chain.specs.declared.slots.Slots.{Slots}
 use Rattle.chain.specs.Palettes.{uses}
-use Rattle.chain.specs.Seats.{line_in}
-use Rattle.chain.specs.Colourings.{seats_at, Empty, Consistent, Stands, Bare, FreeAt, FreeFor, Found, Written, Stored, Repainted, Exchanged, Joins, Held, LiftedAt, NoneAt, Stepped, Ended, Partly, colour_at, line_at}
+use Rattle.chain.specs.Slots.{line_in}
+use Rattle.chain.specs.Colourings.{slots_at, Empty, Consistent, Stands, Bare, FreeAt, FreeFor, Found, Written, Stored, Repainted, Exchanged, Joins, Held, LiftedAt, NoneAt, Stepped, Ended, Partly, colour_at, line_at}
 use Rattle.chain.proofs.Paths.{none_some, bare_free, bare_here, free_both, same_colour, Carried, carried_first, carried_last, carried_next, fewer_same, other_twice, swap_none, swap_bare, free_after}
 use Rattle.chain.proofs.Steps.{facts_apart, stored_tables, painted, lines_both, coloured_inside}
 use Rattle.chain.proofs.Tables.{lifted, laid, spare_free}
@@ -38,11 +38,11 @@ found ls w e a (Some k) h r =
 found ls w e a None h r = spare_free (end_at (ends ls)) (colour_at w) (line_at w) h.agrees e.side e.number a.number (sym r)
 
 -- a colour that the palette of an end has free
-pub unused_free : (ps : List (ℕ × ℕ)) (w : Colouring) (e : End) (a : Colour) (t : Seats) → Consistent ps w → t ≡ seats_at w e.side e.number → uses t.palette.free a.number ≡ false → FreeAt ps w e a
+pub unused_free : (ps : List (ℕ × ℕ)) (w : Colouring) (e : End) (a : Colour) (t : Slots) → Consistent ps w → t ≡ slots_at w e.side e.number → uses t.palette.free a.number ≡ false → FreeAt ps w e a
 unfolding Consistent FreeAt
 unused_free ps w e a t h is unused =
     spare_free (end_at ps) (colour_at w) (line_at w) h.agrees e.side e.number a.number
-    (ap (λ (s : Seats). line_in s a.number) (sym is) ∙ ap (λ (u : Bool). cond u (Some (get_or t.lines a.number 0)) None) unused)
+    (ap (λ (s : Slots). line_in s a.number) (sym is) ∙ ap (λ (u : Bool). cond u (Some (get_or t.lines a.number 0)) None) unused)
 
 -- a colour that is free at both ends of the line k
 pub free_both_ends : (ps : List (ℕ × ℕ)) (w : Colouring) (k : ℕ) (a : Colour) (l r : End) → l.side ≡ Left → r.side ≡ Right → Stands ps k l → Stands ps k r → FreeAt ps w l a → FreeAt ps w r a → FreeFor ps w k a
@@ -247,7 +247,7 @@ unfolding Consistent
 start_consistent ps w h = record {
   within = λ k a c. absurd (none_some (colour_at w k) a (h.0 k) c);
   agrees = record {
-    seat = λ s k a c. absurd (none_some (colour_at w k) a (h.0 k) c);
+    slot = λ s k a c. absurd (none_some (colour_at w k) a (h.0 k) c);
     line = λ s v a k lv la t. absurd (none_some (line_at w s v a) k (h.1 (record { side = s; number = v; inside = lv }) (record { number = a; low = la })) t);
   };
 }

@@ -11,8 +11,8 @@ use Rattle.lines.proofs.Places.{length_ends, length_colours, same_length, ends_s
 use Rattle.chain.specs.declared.colour.Colour.{Colour}
 use Rattle.chain.specs.declared.end.End.{End}
 use Rattle.chain.specs.declared.colouring.Colouring.{Colouring}
-use Rattle.chain.specs.Seats.{line_in}
-use Rattle.chain.specs.Colourings.{no_seats, place_of, number_of, colour_at, line_at, Empty, Consistent, Stands, Stored, Vacated, Partly, Copied, Cleared}
+use Rattle.chain.specs.Slots.{line_in}
+use Rattle.chain.specs.Colourings.{no_slots, place_of, number_of, colour_at, line_at, Empty, Consistent, Stands, Stored, Vacated, Partly, Copied, Cleared}
 use Rattle.chain.proofs.Paths.{none_some, none_or_some, some_same}
 use Rattle.chain.proofs.Steps.{facts_apart, stored_painted}
 
@@ -75,7 +75,7 @@ clear_start ps w = record { bare = λ j l. absurd (omega arith); vacant = λ j l
 vacated : (w u : Colouring) (e : End) → Vacated w u e → (s : Side) (v a : ℕ) → a < 64 → (line_at u s v a ≡ None) ⊎ (line_at u s v a ≡ line_at w s v a)
 vacated w u e h s v a la =
     ⊎_elim
-    (λ (z : place_of s v ≡ place_of e.side e.number). inl (ap (λ i. line_in (get_or (vec_items u.seats) i no_seats) a) z ∙ h.gone a la))
+    (λ (z : place_of s v ≡ place_of e.side e.number). inl (ap (λ i. line_in (get_or (vec_items u.slots) i no_slots) a) z ∙ h.gone a la))
     (λ (ne : place_of s v ≡ place_of e.side e.number → ⊥). inr (h.old s v a ne))
     (cases_eq (place_of s v) (place_of e.side e.number))
 
@@ -87,7 +87,7 @@ still o p h e = ⊎_elim (λ (z : p ≡ None). z) (λ (z : p ≡ o). z ∙ e) h
 module _ (ps : List (ℕ × ℕ)) (w u x y z : Colouring) (k : ℕ) (l r : End) (n : k < 1024) (c : Cleared ps w u k) (vl : Vacated u x l) (vr : Vacated x y r) (st : Stored y z k None)
     (sl : l.side ≡ Left) (el : l.number ≡ end_at ps l.side k) (sr : r.side ≡ Right) (er : r.number ≡ end_at ps r.side k) where
   same_lines : (s : Side) (v a : ℕ) → line_at z s v a ≡ line_at y s v a
-  same_lines s v a = ap (λ t. line_in (get_or (vec_items t) (place_of s v) no_seats) a) st.seats
+  same_lines s v a = ap (λ t. line_in (get_or (vec_items t) (place_of s v) no_slots) a) st.slots
 
   fewer : (s : Side) (v a : ℕ) → a < 64 → (line_at z s v a ≡ None) ⊎ (line_at z s v a ≡ line_at u s v a)
   fewer s v a la =

@@ -7,9 +7,9 @@ use Rattle.lines.specs.Lines.{end_at, Inside}
 use Rattle.chain.specs.declared.colour.Colour.{Colour}
 use Rattle.chain.specs.declared.end.End.{End}
 use Rattle.chain.specs.declared.colouring.Colouring.{Colouring}
-use Rattle.chain.specs.Seats.{line_in}
+use Rattle.chain.specs.Slots.{line_in}
 use Rattle.chain.specs.Exchanges.{Apart, Painted, Agrees}
-use Rattle.chain.specs.Colourings.{no_seats, number_of, colour_at, line_at, place_of, Facts, Written, Stored}
+use Rattle.chain.specs.Colourings.{no_slots, number_of, colour_at, line_at, place_of, Facts, Written, Stored}
 use Rattle.chain.proofs.Tables.{agrees_apart, Both, both}
 
 items_length : (w : Colouring) → length (vec_items w.colours) ≡ 1024
@@ -27,12 +27,12 @@ stored_painted w u k o l h = record {
 
 pub stored_tables : (ps : List (ℕ × ℕ)) (w u : Colouring) (k : ℕ) (o : Option Colour) → Stored w u k o → Agrees (end_at ps) (colour_at u) (line_at w) → Agrees (end_at ps) (colour_at u) (line_at u)
 stored_tables ps w u k o h g = record {
-  seat = λ s j a c. same s (end_at ps s j) a ∙ g.seat s j a c;
+  slot = λ s j a c. same s (end_at ps s j) a ∙ g.slot s j a c;
   line = λ s v a j lv la e. g.line s v a j lv la (sym (same s v a) ∙ e);
 }
   where
     same : (s : Side) (v a : ℕ) → line_at u s v a ≡ line_at w s v a
-    same s v a = ap (λ x. line_in (get_or (vec_items x) (place_of s v) no_seats) a) h.seats
+    same s v a = ap (λ x. line_in (get_or (vec_items x) (place_of s v) no_slots) a) h.slots
 
 -- writes at both ends of the line k, and at the line
 module _ (w x y u : Colouring) (k : ℕ) (a : Colour) (l r : End) (o : Option Colour) (z : Option ℕ) (n : k < 1024) (st : Stored y u k o) (wr : Written x y r a z) (wl : Written w x l a z) where

@@ -8,7 +8,7 @@ use Rattle.chain.proofs.Paths.{none_some, none_or_some, some_same}
 
 pub agrees_apart : (e : Ends) (c : Colours) (t : Side → ℕ → ℕ → Option ℕ) → Agrees e c t → Apart e c
 agrees_apart e c t w s i j a ci cj ee =
-    some_same (t s (e s j) a) i j (ap (λ v. t s v a) (sym ee) ∙ w.seat s i a ci) (w.seat s j a cj)
+    some_same (t s (e s j) a) i j (ap (λ v. t s v a) (sym ee) ∙ w.slot s i a ci) (w.slot s j a cj)
 
 -- u is t with y at both ends of k, under the colour a
 pub record Both (e : Ends) (t u : Side → ℕ → ℕ → Option ℕ) (k a : ℕ) (y : Option ℕ) : Type 0 where
@@ -36,10 +36,10 @@ either v y x z = ⊎_elim (λ (p : v ≡ y). ⊎_elim (λ (q : x ≡ z). inl (p,
 module _ (e : Ends) (c d : Colours) (t u : Side → ℕ → ℕ → Option ℕ) (k a : ℕ) (w : Agrees e c t) (inside : (s : Side) (j b : ℕ) → c j ≡ Some b → e s j < 512) where
   pub lifted : c k ≡ Some a → Both e t u k a None → Painted c d k None → Agrees e d u
   lifted has b p = record {
-    seat = λ s j x dj.
+    slot = λ s j x dj.
         let nk : j ≡ k → ⊥ = λ z. none_some (d j) x (ap d z ∙ p.new) dj in
         let cj : c j ≡ Some x = sym (p.old j nk) ∙ dj in
-        b.old s (e s j) x (inside s j x cj) (λ ee xx. nk (agrees_apart e c t w s j k x cj (has ∙ ap Some (sym xx)) ee)) ∙ w.seat s j x cj;
+        b.old s (e s j) x (inside s j x cj) (λ ee xx. nk (agrees_apart e c t w s j k x cj (has ∙ ap Some (sym xx)) ee)) ∙ w.slot s j x cj;
     line = λ s v x j lv lx near.
         let off : v ≡ e s k → x ≡ a → ⊥ = λ zv zx. none_some (u s v x) j (ap (λ y. u s y x) zv ∙ ap (λ y. u s (e s k) y) zx ∙ b.new s) near in
         let was = w.line s v x j lv lx (sym (b.old s v x lv off) ∙ near) in
@@ -49,14 +49,14 @@ module _ (e : Ends) (c d : Colours) (t u : Side → ℕ → ℕ → Option ℕ) 
 
   pub laid : c k ≡ None → ((s : Side) → Free e c s (e s k) a) → Both e t u k a (Some k) → Painted c d k (Some a) → Agrees e d u
   laid bare free b p = record {
-    seat = λ s j x dj.
+    slot = λ s j x dj.
         ⊎_elim
         (λ (z : j ≡ k).
         let xa : x ≡ a = some_same (d j) x a dj (ap d z ∙ p.new) in
         ap (λ y. u s (e s y) x) z ∙ ap (λ y. u s (e s k) y) xa ∙ b.new s ∙ ap Some (sym z))
         (λ (nk : j ≡ k → ⊥).
         let cj : c j ≡ Some x = sym (p.old j nk) ∙ dj in
-        b.old s (e s j) x (inside s j x cj) (λ ee xx. free s j ee (cj ∙ ap Some xx)) ∙ w.seat s j x cj)
+        b.old s (e s j) x (inside s j x cj) (λ ee xx. free s j ee (cj ∙ ap Some xx)) ∙ w.slot s j x cj)
         (cases_eq j k);
     line = λ s v x j lv lx near.
         ⊎_elim
@@ -78,4 +78,4 @@ free_spare e c t w s v b lv lb free =
 
 -- and where it has none the colour is free
 pub spare_free : (e : Ends) (c : Colours) (t : Side → ℕ → ℕ → Option ℕ) → Agrees e c t → (s : Side) (v b : ℕ) → t s v b ≡ None → Free e c s v b
-spare_free e c t w s v b spare k ek ck = none_some (t s v b) k spare (ap (λ x. t s x b) (sym ek) ∙ w.seat s k b ck)
+spare_free e c t w s v b spare k ek ck = none_some (t s v b) k spare (ap (λ x. t s x b) (sym ek) ∙ w.slot s k b ck)

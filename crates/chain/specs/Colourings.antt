@@ -8,9 +8,9 @@ use Rattle.lines.specs.Lines.{other, ends, colours, end_at, degree}
 use Rattle.chain.specs.declared.colour.Colour.{Colour}
 use Rattle.chain.specs.declared.end.End.{End}
 use Rattle.chain.specs.declared.exchange.InHand.{InHand}
-use Rattle.chain.specs.declared.seats.Seats.{Seats}
+use Rattle.chain.specs.declared.slots.Slots.{Slots}
 use Rattle.chain.specs.declared.colouring.Colouring.{Colouring}
-use Rattle.chain.specs.Seats.{line_in}
+use Rattle.chain.specs.Slots.{line_in}
 use Rattle.chain.specs.Exchanges.{Free, Swap, Painted, Passed, Changed, Agrees}
 
 -- the place of the end v of a side in the work space
@@ -26,17 +26,17 @@ number_of o = option_map (λ (a : Colour). a.number) o
 abbrev pub colour_at : Colouring → ℕ → Option ℕ
 colour_at w k = number_of (slice_index_or (vec_items w.colours) k None)
 
--- seats where there are none
-abbrev pub no_seats : Seats
-no_seats = record { palette = record { free = 0 }; lines = replicate 64 0 }
+-- slots where there are none
+abbrev pub no_slots : Slots
+no_slots = record { palette = record { free = 0 }; lines = replicate 64 0 }
 
 -- which line has which colour at the end v
-abbrev pub seats_at : Colouring → Side → ℕ → Seats
-seats_at w s v = slice_index_or (vec_items w.seats) (place_of s v) no_seats
+abbrev pub slots_at : Colouring → Side → ℕ → Slots
+slots_at w s v = slice_index_or (vec_items w.slots) (place_of s v) no_slots
 
 -- the line that has the colour a at the end v
 abbrev pub line_at : Colouring → Side → ℕ → ℕ → Option ℕ
-line_at w s v a = line_in (seats_at w s v) a
+line_at w s v a = line_in (slots_at w s v) a
 
 -- no line has a colour, and none has one at any end
 abbrev pub Empty : Colouring → Type 0
@@ -98,10 +98,10 @@ pub record Vacated (w u : Colouring) (e : End) : Type 0 where
   pub gone : (a : ℕ) → a < 64 → line_at u e.side e.number a ≡ None
   pub old : (s : Side) (v a : ℕ) → place_of s v ≢ place_of e.side e.number → line_at u s v a ≡ line_at w s v a
 
--- after a write at the line k: it has the colour o, or none, and the seats are as they were
+-- after a write at the line k: it has the colour o, or none, and the slots are as they were
 pub record Stored (w u : Colouring) (k : ℕ) (o : Option Colour) : Type 0 where
   pub colours : vec_items u.colours ≡ slice_set (vec_items w.colours) k o
-  pub seats : u.seats ≡ w.seats
+  pub slots : u.slots ≡ w.slots
 
 -- the line k has another colour, or none, and the others have theirs
 unfoldable pub Repainted : Colouring → Colouring → ℕ → Option Colour → Type 0

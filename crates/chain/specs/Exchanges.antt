@@ -48,5 +48,5 @@ pub record Changed (t u : Side → ℕ → ℕ → Option ℕ) (s : Side) (v a :
 
 -- a table t of the line that has a colour at an end tells the same as the colours c
 pub record Agrees (e : Ends) (c : Colours) (t : Side → ℕ → ℕ → Option ℕ) : Type 0 where
-  pub seat : (s : Side) (k a : ℕ) → c k ≡ Some a → t s (e s k) a ≡ Some k
+  pub slot : (s : Side) (k a : ℕ) → c k ≡ Some a → t s (e s k) a ≡ Some k
   pub line : (s : Side) (v a k : ℕ) → v < 512 → a < 64 → t s v a ≡ Some k → (e s k ≡ v) × (c k ≡ Some a)

@@ -6,7 +6,7 @@ ghost use Rattle.chain.specs.Colourings.{colour_at, Consistent, Bare, FreeAt, Fr
 use crate::colour::Colour;
 use crate::colouring::Colouring;
 use crate::end::End;
-use crate::seating::end_of;
+use crate::entries::end_of;
 use lines::bounded::Bounded;
 use lines::line::Side;
 
@@ -42,8 +42,8 @@ impl Colouring {
     {
         let left = end_of(bounded, k, Side::Left);
         let right = end_of(bounded, k, Side::Right);
-        self.unseat(left, colour);
-        self.unseat(right, colour);
+        self.release(left, colour);
+        self.release(right, colour);
         self.paint(k, None);
     }
 
@@ -59,8 +59,8 @@ impl Colouring {
     {
         let left = end_of(bounded, k, Side::Left);
         let right = end_of(bounded, k, Side::Right);
-        self.seat(left, colour, k);
-        self.seat(right, colour, k);
+        self.occupy(left, colour, k);
+        self.occupy(right, colour, k);
         self.paint(k, Some(colour));
     }
 

@@ -9,7 +9,7 @@ ghost use Rattle.chain.specs.Colourings.{Empty, Consistent, Stands, Bare, FreeBe
 use crate::colour::{Colour, NoColour};
 use crate::colouring::Colouring;
 use crate::end::End;
-use crate::seating::end_of;
+use crate::entries::end_of;
 use crate::task::Task;
 use lines::bounded::Bounded;
 use lines::line::{Line, Side};

@@ -4,10 +4,10 @@
 //   colour      one of the 64 colours
 //   end         one of the 512 ends of a side
 //   palette     which colours are in use at an end
-//   seats       which line has which colour at an end
-//   colouring   the work space: colours by line, and seats by end
+//   slots       which line has which colour at an end
+//   colouring   the work space: colours by line, and slots by end
 //   empty       the work space before the first line
-//   seating     reading and writing the work space at an end
+//   entries     reading and writing the work space at an end
 //   task        what is to be coloured
 //   exchange    a line loses its colour or gets one; two colours change places along a path
 //   insert      the lines get their colours, which are written into them at the end
@@ -34,11 +34,11 @@ mod colour;
 mod colouring;
 mod empty;
 mod end;
+mod entries;
 mod exchange;
 mod insert;
 mod palette;
-mod seating;
-mod seats;
+mod slots;
 mod task;
 
 // Serves 1 to 64 colours. All memory is taken when it is made; the work space is empty between calls.

@@ -4,14 +4,14 @@ use Rattle.std.proofs.lemmas.Bool.{or_parts}
 use Rattle.lines.specs.declared.line.Side.TheVariants.{Left, Right}
 use Rattle.chain.specs.declared.colour.Colour.{Colour}
 use Rattle.chain.specs.declared.end.End.{End}
-use Rattle.chain.specs.declared.seats.Seats.{Seats}
+use Rattle.chain.specs.declared.slots.Slots.{Slots}
 use Rattle.chain.specs.declared.colouring.Colouring.{Colouring}
 use Rattle.chain.specs.Palettes.{uses, UnusedBelow}
-use Rattle.chain.specs.Colourings.{Consistent, Stands, Shared, seats_at}
+use Rattle.chain.specs.Colourings.{Consistent, Stands, Shared, slots_at}
 use Rattle.chain.proofs.Laws.{unused_free, free_both_ends}
 use Rattle.chain.proofs.colouring.Colouring.shared_colour.Goals as goal
 
-shared : (ps : List (ℕ × ℕ)) (w : Colouring) (k c p : ℕ) (l r : End) (t n : Seats) (o : Option Colour) → Consistent ps w → l.side ≡ Left → r.side ≡ Right → Stands ps k l → Stands ps k r → t ≡ seats_at w l.side l.number → n ≡ seats_at w r.side r.number
+shared : (ps : List (ℕ × ℕ)) (w : Colouring) (k c p : ℕ) (l r : End) (t n : Slots) (o : Option Colour) → Consistent ps w → l.side ≡ Left → r.side ≡ Right → Stands ps k l → Stands ps k r → t ≡ slots_at w l.side l.number → n ≡ slots_at w r.side r.number
     → ((a : ℕ) → uses p a ≡ (uses t.palette.free a || uses n.palette.free a)) → UnusedBelow p c o → IfSome o (Shared ps w k c)
 shared ps w k c p l r t n None h sl sr el er tl nr union m = tt
 shared ps w k c p l r t n (Some a) h sl sr el er tl nr union m =

@@ -1,12 +1,12 @@
 // What stands at an end: reading and writing the work space at one place.
 ghost use Rattle.std.specs.Prelude.{◌≡◌, ◌<◌, length, Some, None, MatchOption};
 ghost use Rattle.lines.specs.Lines.{ends};
-ghost use Rattle.chain.specs.Colourings.{place_of, seats_at, Stands, Consistent, FreeAt, Found, Written, Vacated};
+ghost use Rattle.chain.specs.Colourings.{place_of, slots_at, Stands, Consistent, FreeAt, Found, Written, Vacated};
 
 use crate::colour::Colour;
 use crate::colouring::Colouring;
 use crate::end::End;
-use crate::seats::Seats;
+use crate::slots::Slots;
 use lines::bounded::Bounded;
 use lines::line::Side;
 
@@ -36,10 +36,10 @@ pub(crate) fn end_of(bounded: Bounded<'_>, k: usize, side: Side) -> End
 
 impl Colouring {
     // Which line has which colour at the end.
-    pub(crate) fn at(&self, end: End) -> &Seats
-        ensures { result.now ≡ seats_at self.now end.side end.number }
+    pub(crate) fn at(&self, end: End) -> &Slots
+        ensures { result.now ≡ slots_at self.now end.side end.number }
     {
-        &self.seats[end.place()]
+        &self.slots[end.place()]
     }
 
     // The line that has the colour at the end.
@@ -54,27 +54,27 @@ impl Colouring {
     }
 
     // Notes that the line k has the colour at the end.
-    pub(crate) fn seat(&mut self, end: End, colour: Colour, k: usize)
+    pub(crate) fn occupy(&mut self, end: End, colour: Colour, k: usize)
         requires { k < 1024 }
         ensures { Written self.old self.new end colour (Some k) }
     {
-        let seats = &mut self.seats[end.place()];
-        seats.insert(colour, k);
+        let slots = &mut self.slots[end.place()];
+        slots.insert(colour, k);
     }
 
     // Notes that no line has the colour at the end.
-    pub(crate) fn unseat(&mut self, end: End, colour: Colour)
+    pub(crate) fn release(&mut self, end: End, colour: Colour)
         ensures { Written self.old self.new end colour None }
     {
-        let seats = &mut self.seats[end.place()];
-        seats.remove(colour);
+        let slots = &mut self.slots[end.place()];
+        slots.remove(colour);
     }
 
     // Notes that no line has a colour at the end.
     pub(crate) fn vacate(&mut self, end: End)
         ensures { Vacated self.old self.new end }
     {
-        let seats = &mut self.seats[end.place()];
-        seats.clear();
+        let slots = &mut self.slots[end.place()];
+        slots.clear();
     }
 }

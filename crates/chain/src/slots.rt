@@ -1,24 +1,24 @@
 // Which line has which colour at an end.
 ghost use Rattle.std.specs.Prelude.{◌≡◌, ℕ, ◌<◌, Some, None};
-ghost use Rattle.chain.specs.Seats.{line_in, Reseated};
+ghost use Rattle.chain.specs.Slots.{line_in, Refilled};
 
 use crate::colour::Colour;
 use crate::palette::Palette;
 
-// The lines at an end, by colour. They are read only where the palette says that the colour is in use, so that they never
-// have to be cleared.
+// The lines at an end: a slot for each colour. A slot is read only where the palette says that the colour is in use, so
+// that slots never have to be cleared.
 #[derive(Clone, Copy)]
-pub struct Seats {
+pub struct Slots {
     pub palette: Palette,
     pub lines: [u16; 64],
 }
 
-impl Seats {
+impl Slots {
     // No line has a colour.
-    pub(crate) fn new() -> Seats
+    pub(crate) fn new() -> Slots
         ensures { (a : ℕ) → a < 64 → line_in result a ≡ None }
     {
-        Seats {
+        Slots {
             palette: Palette::new(),
             lines: [0; 64],
         }
@@ -38,7 +38,7 @@ impl Seats {
     // Notes that the line k has the colour.
     pub(crate) fn insert(&mut self, colour: Colour, k: usize)
         requires { k < 1024 }
-        ensures { Reseated self.old self.new colour.number (Some k) }
+        ensures { Refilled self.old self.new colour.number (Some k) }
     {
         self.palette = self.palette.insert(colour);
         self.lines[usize::from(colour.number)] = k as u16;
@@ -46,7 +46,7 @@ impl Seats {
 
     // Notes that no line has the colour.
     pub(crate) fn remove(&mut self, colour: Colour)
-        ensures { Reseated self.old self.new colour.number None }
+        ensures { Refilled self.old self.new colour.number None }
     {
         self.palette = self.palette.remove(colour);
     }
