@@ -55,7 +55,7 @@ module _ (e : ℕ → ℕ) (c : ℕ → Option ℕ) (n v : ℕ) where
 -- the line k has no colour at the end e, where the lines are t
 module _ (ls : List Line) (w : Colouring) (e : End) (k c : ℕ) (t : Slots) (is_slots : t ≡ slots_at w e.side e.number) (h : Consistent (ends ls) w) (within : k < length ls) (bare : Bare w k) (stands : Stands (ends ls) k e)
     (low : c ≤ 64) where
-  -- if c colours are in use there, the end is crowded
+  -- if all colours below c are in use there, the end is crowded
   all_used : ((b : ℕ) → b < 64 → b < c → uses t.palette.free b ≡ true) → Crowded c (ends ls)
   unfolding Consistent Bare Stands Crowded
   all_used used =

@@ -8,6 +8,6 @@ pub struct Colour {
     ghost low: { number < 64 },
 }
 
-// All the colours are in use at an end of a line that has none: more lines stand there than there are colours.
+// A line finds no colour: all below the count are in use at one of its ends. Then some end is crowded.
 #[derive(Clone, Copy)]
 pub(crate) struct NoColour;

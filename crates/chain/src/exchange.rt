@@ -11,7 +11,7 @@ use lines::bounded::Bounded;
 use lines::line::Side;
 
 // A line in hand, while two colours change places along a path: it has lost its old colour and is to get the new one.
-// The path came to it at its near end, where the new colour is free, and goes on at its far end, where the old one is.
+// The path came to it at its near end, where the new colour is free; at its far end another line may have that colour.
 #[derive(Clone, Copy)]
 pub(crate) struct InHand {
     line: usize,
@@ -64,7 +64,7 @@ impl Colouring {
         self.paint(k, Some(colour));
     }
 
-    // Takes the colour away from the line that has it at the end.
+    // Takes the colour away from the line that has it at the end, and tells which that was, if any.
     fn lift_at(&mut self, bounded: Bounded<'_>, end: End, colour: Colour) -> Option<usize>
         requires { Consistent (ends bounded.lines.now) self.old }
         ensures consistent { Consistent (ends bounded.entry.lines.now) self.new }
@@ -77,7 +77,8 @@ impl Colouring {
         Some(line)
     }
 
-    // The line in hand gets its new colour. Where another line has that colour at the far end, that line is in hand next.
+    // The line in hand gets its new colour. Where another line has that colour at the far end, that one loses it first and
+    // is in hand next.
     #[tactic(auto, using(crate::proofs::Laws::stepping))]
     fn step(&mut self, bounded: Bounded<'_>, hand: InHand) -> Option<InHand>
         requires consistent { Consistent (ends bounded.lines.now) self.old }

@@ -43,7 +43,7 @@ impl Colouring {
         lefts.union(rights).free_below(task.count)
     }
 
-    // Colours the line i, the first that has no colour, if each of its ends has a colour free.
+    // Colours the line i, the first that has no colour, unless some end is crowded.
     #[tactic(auto, using(crate::proofs::Laws::inserting))]
     fn insert(&mut self, task: Task<'_>, i: usize) -> Result<(), NoColour>
         requires consistent { Consistent (ends task.bounded.lines.now) self.old }
@@ -66,8 +66,8 @@ impl Colouring {
         Ok(())
     }
 
-    // Colours all lines, or those before the first that finds no colour. An index is the number by which the work space
-    // knows a line.
+    // Colours all lines, or stops at the first that finds no colour. An index is the number by which the work space knows
+    // a line.
     #[tactic(auto, using(crate::proofs::Laws::starting))]
     fn colour_all(&mut self, task: Task<'_>) -> Result<(), NoColour>
         requires { Empty self.old }

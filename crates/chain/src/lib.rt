@@ -1,7 +1,7 @@
 // The chain arranger. It gives the lines colours one at a time; where the two ends of a line have no free colour in
 // common, two colours change places along a path.
 //
-//   colour      one of the 64 colours
+//   colour      one of the 64 colours, and the want of one
 //   end         one of the 512 ends of a side
 //   palette     which colours are in use at an end
 //   slots       which line has which colour at an end
@@ -58,9 +58,9 @@ fn is_served(c: u8) -> bool
     (1..=64).contains(&c)
 }
 
-// Why lines are refused one of whose ends is crowded: the counts tell which end that is.
+// The refusal that is due for lines with a crowded end. Within bounds it is 26, for the end that the counts tell.
 #[tactic(auto, using(crate::proofs::Refused::crowd_err))]
-fn crowd_refusal(degrees: &mut Degrees, lines: &[Line], c: u8) -> ArrangeRefusal
+fn refusal_where_crowded(degrees: &mut Degrees, lines: &[Line], c: u8) -> ArrangeRefusal
     requires crowded { Crowded c (ends lines.now) }
     ensures { Some (refusal result) ≡ refusal_due true c lines.now }
 {
@@ -110,7 +110,7 @@ impl Arranger for Chain {
         }
         Bounded::new(lines)?;
         if self.colouring.colour(lines, c).is_err() {
-            return Err(crowd_refusal(&mut self.degrees, lines, c));
+            return Err(refusal_where_crowded(&mut self.degrees, lines, c));
         }
         self.meter = add_lines(self.meter, lines.len());
         Ok(())

@@ -59,7 +59,7 @@ impl Palette {
         }
     }
 
-    // A free colour below a count, where one is free.
+    // A free colour below a count, where one of these is free.
     pub(crate) fn free_below(self, count: u8) -> Option<Colour>
         ensures { UnusedBelow self.free count result }
     {

@@ -6,7 +6,7 @@ use crate::colour::Colour;
 use crate::palette::Palette;
 
 // The lines at an end: a slot for each colour. A slot is read only where the palette says that the colour is in use, so
-// that slots never have to be cleared.
+// that only the palette ever has to be cleared.
 #[derive(Clone, Copy)]
 pub struct Slots {
     pub palette: Palette,

@@ -94,7 +94,7 @@ accepted true c ls e =
       within = within_from c (ends ls) (inside_from ls b.0) d.0 d.1;
     }
 
--- lines that are neither too many nor too high, and have no crowded end, are not refused
+-- lines that are not too many, with no end too high and none crowded, are not refused
 pub not_refused : (c : ℕ) (ls : List Line) → bounds_refusal ls ≡ None → DegreesWithin c (ends ls) → refusal_due true c ls ≡ None
 not_refused c ls e h =
     let a = cond_none (ltb 1024 (length ls)) _ (cond (end_above ls) (Some (record { number = 25; end = None })) None) e in

@@ -13,8 +13,8 @@ use Rattle.lines.proofs.Pigeon.{deg_pigeon, count_by_cnt}
 by_place : (s : Side) (ps : List (ℕ × ℕ)) (v : ℕ) → degree s v ps ≡ deg (end_at ps s) (length ps) v
 by_place s ps v = count_by_cnt (λ p. eqb (on s p) v) ps (0, 0)
 
-pub few_lines : (c : ℕ) (ps : List (ℕ × ℕ)) → Colourable c ps → DegreesWithin c ps
-few_lines c ps h s v =
+pub colourable_within : (c : ℕ) (ps : List (ℕ × ℕ)) → Colourable c ps → DegreesWithin c ps
+colourable_within c ps h s v =
     rw (by_place s ps v)
     (deg_pigeon (end_at ps s) (λ i. get_or h.0 i 0) (length ps) c v (λ i l _. h.1.below i l)
     (λ i j li lj ne e e'. h.1.differ s i j li lj ne (e ∙ sym e')))
@@ -39,4 +39,4 @@ enough c ps few =
     (map r.0 (range_with_len 0 (length ps)), proper c ps r.0 r.1)
 
 pub colours_suffice : ColoursSuffice
-colours_suffice c ps = (few_lines c ps, enough c ps)
+colours_suffice c ps = (colourable_within c ps, enough c ps)

@@ -38,7 +38,8 @@ fn is_above(line: Line) -> bool
     line.left > 511 || line.right > 511
 }
 
-// Whether some end is above 511. A loop that always goes on to the last line is quicker than one that may end early.
+// Whether some end is above 511. For lines with no such end, a loop that always goes on to the last one is quicker than one
+// that may end early.
 pub fn has_end_above(lines: &[Line]) -> bool
     ensures { result ≡ end_above lines.now }
 {

@@ -1,4 +1,4 @@
-// The tests that every arranger makes before it colours lines.
+// The tests for the refusals 23 to 26, in their order.
 ghost use Rattle.std.specs.Prelude.{◌≡◌, ℕ, ◌+◌, ◌<◌, ◌≤◌, ltb, length, IfOk, if◌then◌else◌, vec_len, slice_index, slice_set};
 ghost use Rattle.lines.specs.Lines.{ends};
 ghost use Rattle.lines.specs.Refusals.{told, refusal_due};
@@ -40,7 +40,7 @@ impl Degrees {
     }
 
     // The first refusal that is due, where one is; `served` says whether the arranger serves c colours, which is tested
-    // first, here for every arranger.
+    // first.
     pub fn check(&mut self, lines: &[Line], served: bool, c: u8) -> Result<(), ArrangeRefusal>
         ensures { told result ≡ refusal_due served c lines.now }
     {

@@ -5,7 +5,7 @@
 //   refusal    why lines are not arranged, by number
 //   arranger   the interface of an arranger, its meaning and its laws
 //   bounded    lines that are not too many, with no end too high
-//   degrees    the tests that every arranger makes before it colours
+//   degrees    how many lines stand at each end, and the tests for refusals
 //   theorem    how many colours suffice
 #![tactic(auto)]
 
