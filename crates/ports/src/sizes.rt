@@ -1,7 +1,7 @@
 // The sizes of a cabinet, and what a call tests of its sizes, nodes and spine before it does anything.
 ghost use Rattle.std.specs.Prelude.{◌≡◌};
 ghost use Rattle.crossbar.specs.Refusals.{told};
-ghost use Rattle.ports.specs.Checks.{sizes_checked, sender_checked, transfer_checked};
+ghost use Rattle.ports.specs.Checks.{lines_fit, nodes_fit, sizes_checked, sender_checked, transfer_checked};
 ghost use Rattle.ports.specs.Nodes.{is_node, place};
 
 use crate::transfer::Transfer;
@@ -15,14 +15,28 @@ pub struct Sizes {
 }
 
 impl Sizes {
+    // Whether m is within its limits.
+    pub fn lines_fit(self) -> bool
+        ensures { result ≡ lines_fit self.m }
+    {
+        (1..=32).contains(&self.m)
+    }
+
+    // Whether n is one of the five that a cabinet can have.
+    pub fn nodes_fit(self) -> bool
+        ensures { result ≡ nodes_fit self.n }
+    {
+        matches!(self.n, 1 | 2 | 4 | 8 | 16)
+    }
+
     // Both sizes within their limits.
     pub fn check(self) -> Result<(), RouteRefusal>
         ensures { told result ≡ sizes_checked self.m self.n }
     {
-        if !(1..=32).contains(&self.m) {
+        if !self.lines_fit() {
             return Err(RouteRefusal::LineCount);
         }
-        if !matches!(self.n, 1 | 2 | 4 | 8 | 16) {
+        if !self.nodes_fit() {
             return Err(RouteRefusal::NodeCount);
         }
         Ok(())
