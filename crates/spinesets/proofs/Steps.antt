@@ -10,7 +10,7 @@ use Rattle.lines.specs.Arrangers.{Arranged}
 use Rattle.lines.specs.Lines.{ends, colours, Proper}
 use Rattle.lines.specs.Refusals.{refusal, refusal_due, lowest_above}
 use Rattle.spinesets.specs.declared.assigned.Assigned.{Assigned}
-use Rattle.spinesets.specs.Sharing.{by_line, assigned, transfers_of, spines_of, Shared, Shares}
+use Rattle.spinesets.specs.Sharing.{lines_of, assigned, transfers_of, spines_of, Shared, Shares}
 use Rattle.spinesets.specs.Example.{permutation, NotRefused}
 
 -- each transfer with the colour of its line: the transfers, and the colours
@@ -26,7 +26,7 @@ spines_assigned (t ∷ ts) [] l = absurd (omega arith)
 spines_assigned (t ∷ ts) (k ∷ ls) l = ap (λ (us : List ℕ). k.colour ∷ us) (spines_assigned ts ls (omega arith))
 
 -- lines that are arranged give the transfers their spines
-pub shared_from : (n : ℕ) (ts : List Transfer) (before after : List Line) (xs : List Assigned) → before ≡ by_line n ts → Arranged n before after → length ts ≡ length after → xs ≡ map assigned (zip ts after) → Shared n ts xs
+pub shared_from : (n : ℕ) (ts : List Transfer) (before after : List Line) (xs : List Assigned) → before ≡ lines_of n ts → Arranged n before after → length ts ≡ length after → xs ≡ map assigned (zip ts after) → Shared n ts xs
 shared_from n ts before after xs e a l x =
     record {
       same = ap transfers_of x ∙ transfers_assigned ts after l;
@@ -34,12 +34,12 @@ shared_from n ts before after xs e a l x =
     }
 
 -- no line of the permutation has more than four transfers
-never_refused : refusal_due true 4 (by_line 4 permutation) ≡ None
+never_refused : refusal_due true 4 (lines_of 4 permutation) ≡ None
 unfolding lowest_above
 never_refused = refl
 
 pub not_refused : (served : Bool) (e : Failure ArrangeRefusal) → served ≡ true → Shares (Err e) served 4 permutation → NotRefused e
 not_refused served (Refused e) is h =
-    let z : Some (refusal e) ≡ None = sym h ∙ ap (λ (b : Bool). refusal_due b 4 (by_line 4 permutation)) is ∙ never_refused in
+    let z : Some (refusal e) ≡ None = sym h ∙ ap (λ (b : Bool). refusal_due b 4 (lines_of 4 permutation)) is ∙ never_refused in
     absurd (let q : ◌≡◌ {A = ℕ} 0 1 = cc in omega arith)
 not_refused served OutOfMemory is h = tt

@@ -1,7 +1,8 @@
 -- What it means to share transfers out over the spines.
-use Rattle.std.specs.Prelude.{◌≡◌, ℕ, ◌/◌, Bool, List, map, Some, None, Ok, Err, vec_items, Result, Vec}
+use Rattle.std.specs.Prelude.{◌≡◌, ℕ, Bool, List, map, Some, None, Ok, Err, vec_items, Result, Vec}
 use Rattle.std.specs.declared.alloc.Global.{Global}
 use Rattle.lines.specs.declared.line.Line.{Line}
+use Rattle.timetables.specs.Stages.{by_line}
 use Rattle.lines.specs.Lines.{ends, Proper}
 use Rattle.lines.specs.Refusals.{refusal, refusal_due}
 use Rattle.failure.specs.declared.Failure.{Failure}
@@ -10,12 +11,9 @@ use Rattle.lines.specs.declared.refusal.ArrangeRefusal.{ArrangeRefusal}
 use Rattle.spinesets.specs.declared.assigned.Assigned.{Assigned}
 use Rattle.ports.specs.declared.transfer.Transfer.{Transfer}
 
--- a transfer as a line from its send line to its receive line; node v stands on line v / n
-abbrev pub line_of : ℕ → Transfer → Line
-line_of n t = record { left = t.sender / n; right = t.receiver / n; colour = 0 }
-
-abbrev pub by_line : ℕ → List Transfer → List Line
-by_line n ts = map (line_of n) ts
+-- transfers as lines from send line to receive line, with n nodes on each
+abbrev pub lines_of : ℕ → List Transfer → List Line
+lines_of n ts = map (by_line n) ts
 
 -- a transfer goes by the spine that is the colour of its line
 abbrev pub assigned : Transfer × Line → Assigned
@@ -31,10 +29,10 @@ spines_of xs = map (λ a. a.spine) xs
 -- different ones
 pub record Shared (n : ℕ) (ts : List Transfer) (xs : List Assigned) : Type 0 where
   pub same : transfers_of xs ≡ ts
-  pub proper : Proper n (ends (by_line n ts)) (spines_of xs)
+  pub proper : Proper n (ends (lines_of n ts)) (spines_of xs)
 
 -- what is answered: spines where the arranger accepts the lines, else its refusal; for want of memory nothing is said
 abbrev pub Shares : Result (Vec Assigned Global) (Failure ArrangeRefusal) → Bool → ℕ → List Transfer → Type 0
-Shares (Ok v) served n ts = (refusal_due served n (by_line n ts) ≡ None) × Shared n ts (vec_items v)
-Shares (Err (Refused e)) served n ts = refusal_due served n (by_line n ts) ≡ Some (refusal e)
+Shares (Ok v) served n ts = (refusal_due served n (lines_of n ts) ≡ None) × Shared n ts (vec_items v)
+Shares (Err (Refused e)) served n ts = refusal_due served n (lines_of n ts) ≡ Some (refusal e)
 Shares (Err OutOfMemory) served n ts = Unit {0}

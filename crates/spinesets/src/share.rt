@@ -1,7 +1,7 @@
 // The spines that an arranger gives to the transfers of one round.
 ghost use Rattle.std.specs.Prelude.{◌≡◌, ◌<◌, map, length, IfOk};
 ghost use Rattle.std.specs.List.{zip};
-ghost use Rattle.spinesets.specs.Sharing.{line_of, by_line, assigned, Shares};
+ghost use Rattle.spinesets.specs.Sharing.{lines_of, assigned, Shares};
 
 use crate::assigned::Assigned;
 use failure::Failure;
@@ -10,30 +10,18 @@ use lines::line::Line;
 use lines::refusal::ArrangeRefusal;
 use ports::transfer::Transfer;
 use std::alloc::{AllocError, Global};
+use timetables::ends::by_line;
 
 // Why no spines are handed out: the arranger refuses, or there is no memory.
 pub type ShareError = Failure<ArrangeRefusal>;
 
-// A transfer as a line from its send line to its receive line, with n nodes on each.
-fn as_line(transfer: Transfer, n: u8) -> Line
-    requires { 0 < n }
-    ensures { result ≡ line_of n transfer }
-{
-    Line {
-        left: transfer.sender / u16::from(n),
-        right: transfer.receiver / u16::from(n),
-        colour: 0,
-    }
-}
-
 // The lines of transfers, in order.
 fn as_lines(heap: Global, transfers: &[Transfer], n: u8) -> Result<Vec<Line>, AllocError>
-    requires { 0 < n }
-    ensures { IfOk result (λ v. v.items ≡ by_line n transfers.now) }
+    ensures { IfOk result (λ v. v.items ≡ lines_of n transfers.now) }
 {
     transfers
         .iter()
-        .map(|transfer| as_line(*transfer, n))
+        .map(|transfer| by_line(*transfer, n))
         .collect(heap)
 }
 
