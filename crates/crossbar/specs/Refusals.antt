@@ -28,10 +28,14 @@ refuse number = Err (record { number = number; node = None })
 abbrev pub refuse_node : {A : Type 0} → ℕ → ℕ → Result A Refusal
 refuse_node number v = Err (record { number = number; node = Some v })
 
--- a call's answer, as a caller is told it
+-- a call's answer, as a caller is told it, where f tells of its refusals
+abbrev pub told_by : {A E : Type 0} → (E → Refusal) → Result A E → Result A Refusal
+told_by f (Ok a) = Ok a
+told_by f (Err e) = Err (f e)
+
+-- that of a walk or a header
 abbrev pub told : {A : Type 0} → Result A RouteRefusal → Result A Refusal
-told (Ok a) = Ok a
-told (Err e) = Err (refusal e)
+told r = told_by refusal r
 
 -- the same where a part of the caller's bytes comes with the answer
 abbrev pub told_rest : {A : Type 0} → Result (A × Bor (List ℕ)) RouteRefusal → Result (A × List ℕ) Refusal
