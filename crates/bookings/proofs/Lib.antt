@@ -1,0 +1,7 @@
+-- Lemmas about live transfers under their tickets, and their counts.
+pub mod Facts
+mod Counting
+mod Tickets
+mod Empty
+mod Keeps
+mod Largest

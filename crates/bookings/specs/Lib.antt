@@ -1,0 +1,5 @@
+pub mod Refusals
+pub mod Model
+pub mod Counts
+pub mod Steps
+pub mod Tables

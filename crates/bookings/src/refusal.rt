@@ -1,0 +1,98 @@
+// Why a fit, a booking or a call with a ticket is refused. Each case holds the values that are told with its number;
+// specs/Refusals.antt has the numbers.
+ghost use Rattle.std.specs.Prelude.{◌≡◌};
+ghost use Rattle.bookings.specs.Refusals.{fit_refusal, booking_refusal, ticket_refusal};
+
+// Why sizes and a number of rounds are not set.
+#[derive(Clone, Copy, PartialEq, Eq, Debug)]
+pub enum FitRefusal {
+    // m is not 1 to 32
+    LineCount,
+    // n is not 1, 2, 4, 8 or 16
+    NodeCount,
+    // R is not 1 to 64
+    RoundCount,
+    // the round arranger does not serve R
+    RoundsNotServed,
+    // a transfer is live
+    TransferLive,
+}
+
+impl FitRefusal {
+    // The number that the documents give the refusal.
+    pub fn number(self) -> u8
+        ensures { result ≡ (fit_refusal self).number }
+    {
+        match self {
+            FitRefusal::LineCount => 1,
+            FitRefusal::NodeCount => 2,
+            FitRefusal::RoundCount => 3,
+            FitRefusal::RoundsNotServed => 4,
+            FitRefusal::TransferLive => 5,
+        }
+    }
+}
+
+// Why a transfer is not booked.
+#[derive(Clone, Copy, PartialEq, Eq, Debug)]
+pub enum BookRefusal {
+    // the sender is not a node
+    Sender(u16),
+    // the receiver is not a node
+    Receiver(u16),
+    // the sender already sends as many live transfers as there are rounds
+    SenderFull(u16),
+    // the receiver already receives as many
+    ReceiverFull(u16),
+    // 1,024 transfers are live
+    BookFull,
+    // ticket 65,535 has been given
+    TicketsSpent,
+}
+
+impl BookRefusal {
+    // The number that the documents give the refusal.
+    pub fn number(self) -> u8
+        ensures { result ≡ (booking_refusal self).number }
+    {
+        match self {
+            BookRefusal::Sender(_) => 6,
+            BookRefusal::Receiver(_) => 7,
+            BookRefusal::SenderFull(_) => 8,
+            BookRefusal::ReceiverFull(_) => 9,
+            BookRefusal::BookFull => 10,
+            BookRefusal::TicketsSpent => 11,
+        }
+    }
+
+    // The node that the refusal is about, where it is about one.
+    pub fn node(self) -> Option<u16>
+        ensures { result ≡ (booking_refusal self).node }
+    {
+        match self {
+            BookRefusal::Sender(node)
+            | BookRefusal::Receiver(node)
+            | BookRefusal::SenderFull(node)
+            | BookRefusal::ReceiverFull(node) => Some(node),
+            BookRefusal::BookFull | BookRefusal::TicketsSpent => None,
+        }
+    }
+}
+
+// Why a call with a ticket is refused.
+#[derive(Clone, Copy, PartialEq, Eq, Debug)]
+pub enum TicketRefusal {
+    // no live transfer has the ticket
+    NotLive,
+}
+
+impl TicketRefusal {
+    // The number that the documents give the refusal.
+    pub fn number(self) -> u8
+        ensures { result ≡ (ticket_refusal self).number }
+    {
+        match self {
+            TicketRefusal::NotLive => 12,
+        }
+    }
+}

@@ -1,0 +1,40 @@
+// Refusals as text.
+ghost use Rattle.std.specs.Prelude.{Some};
+ghost use Rattle.crossbar.specs.Text.{refusal_text};
+ghost use Rattle.bookings.specs.Refusals.{fit_refusal, booking_refusal, ticket_refusal};
+
+use crate::refusal::{BookRefusal, FitRefusal, TicketRefusal};
+use crossbar::digits::TwoDigits;
+use std::fmt;
+
+// The number in two digits.
+impl fmt::Display for FitRefusal {
+    ghost output = { λ e. Some (refusal_text (fit_refusal e)) };
+
+    fn fmt<W: fmt::Write>(&self, f: &mut fmt::Formatter<W>) -> fmt::Result {
+        let number = TwoDigits(self.number());
+        write!(f, "refused {number}")
+    }
+}
+
+// The number in two digits, and the node where there is one.
+impl fmt::Display for BookRefusal {
+    ghost output = { λ e. Some (refusal_text (booking_refusal e)) };
+
+    fn fmt<W: fmt::Write>(&self, f: &mut fmt::Formatter<W>) -> fmt::Result {
+        let number = TwoDigits(self.number());
+        match self.node() {
+            Some(v) => write!(f, "refused {number} node {v}"),
+            None => write!(f, "refused {number}"),
+        }
+    }
+}
+
+// The number in two digits.
+impl fmt::Display for TicketRefusal {
+    ghost output = { λ e. Some (refusal_text (ticket_refusal e)) };
+
+    fn fmt<W: fmt::Write>(&self, f: &mut fmt::Formatter<W>) -> fmt::Result {
+        write!(f, "refused {}", TwoDigits(self.number()))
+    }
+}
