@@ -58,6 +58,9 @@ impl Refusal {
 }
 
 pub trait Arranger {
+    // Whether it colours with c colours.
+    fn serves(&self, c: u8) -> bool;
+
     fn arrange(&mut self, lines: &mut [Line], c: u8) -> Result<(), Refusal>;
 }
 
@@ -151,8 +154,12 @@ impl Chain {
 }
 
 impl Arranger for Chain {
+    fn serves(&self, c: u8) -> bool {
+        (1..=64).contains(&c)
+    }
+
     fn arrange(&mut self, lines: &mut [Line], c: u8) -> Result<(), Refusal> {
-        self.degrees.check(lines, (1..=64).contains(&c), c)?;
+        self.degrees.check(lines, self.serves(c), c)?;
         let all = u64::MAX >> (64 - c);
         for used in self.used.iter_mut() {
             used.fill(0);
@@ -300,8 +307,12 @@ impl Euler {
 }
 
 impl Arranger for Euler {
+    fn serves(&self, c: u8) -> bool {
+        c.is_power_of_two() && c <= 64
+    }
+
     fn arrange(&mut self, lines: &mut [Line], c: u8) -> Result<(), Refusal> {
-        self.degrees.check(lines, c.is_power_of_two() && c <= 64, c)?;
+        self.degrees.check(lines, self.serves(c), c)?;
         let items = &mut self.items[..lines.len()];
         for (i, (item, line)) in items.iter_mut().zip(lines.iter()).enumerate() {
             *item = Item { left: line.left, right: line.right, line: i as u16 };

@@ -1,0 +1,6 @@
+-- The lemmas of this crate.
+mod Cells
+mod SeatBytes
+mod Turning
+mod Holding
+mod Fillings

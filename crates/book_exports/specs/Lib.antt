@@ -1,0 +1,3 @@
+-- The specifications of this crate.
+pub mod Filling
+pub mod Seats
