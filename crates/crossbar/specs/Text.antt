@@ -22,6 +22,10 @@ hex b = hex_digit (b / 16) ∷ hex_digit b ∷ []
 abbrev pub two_digits : ℕ → List ℕ
 two_digits v = decimal (v / 10) ++ decimal (v % 10)
 
+-- a number below 100,000 in five decimal digits
+abbrev pub five_digits : ℕ → List ℕ
+five_digits v = two_digits (v / 1000) ++ (decimal (v / 100 % 10) ++ (decimal (v / 10 % 10) ++ decimal (v % 10)))
+
 abbrev pub switch_text : Switch → List ℕ
 switch_text (Line w) = codes "line " ++ decimal w
 switch_text (Send w) = codes "send " ++ decimal w

@@ -1,6 +1,6 @@
-// Numbers in two decimal digits, and bytes in two hexadecimal digits.
+// Numbers in two or five decimal digits, and bytes in two hexadecimal digits.
 ghost use Rattle.std.specs.Prelude.{◌≡◌, Some};
-ghost use Rattle.crossbar.specs.Text.{hex_digit, hex, two_digits};
+ghost use Rattle.crossbar.specs.Text.{hex_digit, hex, two_digits, five_digits};
 
 use std::fmt;
 
@@ -41,5 +41,19 @@ impl fmt::Display for TwoDigits {
     fn fmt<W: fmt::Write>(&self, f: &mut fmt::Formatter<W>) -> fmt::Result {
         let number = self.0;
         write!(f, "{number:02}")
+    }
+}
+
+// A number, shown in five decimal digits.
+#[derive(Clone, Copy)]
+pub struct FiveDigits(pub u16);
+
+impl fmt::Display for FiveDigits {
+    ghost output = { λ v. Some (five_digits v.0) };
+
+    #[tactic(auto, using(crate::proofs::Padded::five_padded))]
+    fn fmt<W: fmt::Write>(&self, f: &mut fmt::Formatter<W>) -> fmt::Result {
+        let number = self.0;
+        write!(f, "{number:05}")
     }
 }
