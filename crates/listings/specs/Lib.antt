@@ -1,0 +1,3 @@
+-- The specifications of this crate.
+pub mod Listings
+pub mod Quoted
