@@ -5,7 +5,7 @@ use Rattle.timetables.specs.Loads.{LoadsWithin, BetweenNodes}
 use Rattle.bookings.specs.declared.table.Table.{Table}
 use Rattle.bookings.specs.Model.{transfers}
 use Rattle.bookings.specs.Tables.{model}
-pub use Rattle.bookings.proofs.Tickets.{length_transfers, transfer_place}
+pub use Rattle.bookings.proofs.Tickets.{length_transfers, transfer_place, place_found, place_here}
 pub use Rattle.bookings.proofs.Keeps.{below_512, between_push}
 
 pub lines : (t : Table) → lines_fit (model t).m ≡ true

@@ -117,8 +117,8 @@ module _ (given k : ℕ) (xs : List Booking) (h : Rising given xs) where
   before : (i low : ℕ) → Split k xs low low → i < low → (booking_at xs i).ticket ≢ k
   before i low s l = omega (arith, s.below i l)
 
-  here : (i : ℕ) → i < length xs → ((j : ℕ) → j < i → (booking_at xs j).ticket ≢ k) → (booking_at xs i).ticket ≡ k → position_of k xs ≡ Some i
-  here i l other e =
+  pub place_here : (i : ℕ) → i < length xs → ((j : ℕ) → j < i → (booking_at xs j).ticket ≢ k) → (booking_at xs i).ticket ≡ k → position_of k xs ≡ Some i
+  place_here i l other e =
       let p : position_or_len (has_ticket k) xs ≡ i = position_or_len_is (has_ticket k) xs i none (omega arith) (λ j m. ne_eqb (booking_at xs j).ticket k (other j m)) (λ _. eq-eqb (booking_at xs i).ticket k e) in
       ap (λ n. cond (ltb n (length xs)) (Some n) None) p ∙ cond-true (ltb i (length xs)) (Some i) None (lt-ltb i (length xs) l)
 
@@ -131,7 +131,7 @@ module _ (given k : ℕ) (xs : List Booking) (h : Rising given xs) where
   ticket_read i x l read = ap (λ y. y.ticket) (get_or_read xs i x l read none)
 
   pub place_some : (low : ℕ) (x : Booking) → Split k xs low low → low < length xs → x ≡ get_or xs low x → x.ticket ≡ k → Some low ≡ position_of k xs
-  place_some low x s l read e = sym (here low l (λ j m. before j low s m) (sym (ticket_read low x l read) ∙ e))
+  place_some low x s l read e = sym (place_here low l (λ j m. before j low s m) (sym (ticket_read low x l read) ∙ e))
 
   pub place_past : (low : ℕ) → Split k xs low low → length xs ≤ low → None ≡ position_of k xs
   place_past low s l = sym (nowhere (λ j m. before j low s (omega arith)))

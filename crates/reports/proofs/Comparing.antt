@@ -1,16 +1,13 @@
 -- Two tables in which tickets rise have the same under each ticket just where they have the same at each place.
-use Rattle.std.proofs.Common.{◌≡◌, ℕ, zero, suc, ◌<◌, ◌≤◌, false, cond, ltb, ◌≢◌, ◌↔◌, List, length, Some, None, Option, sym, refl, ap, ◌∙◌, ⊎_elim, arith}
-use Rattle.std.specs.List.{position_or_len}
-use Rattle.std.proofs.lemmas.List.Sums.{position_or_len_is}
-use Rattle.std.proofs.lemmas.List.Quantifiers.{position-Some}
-use Rattle.std.proofs.lemmas.Bool.{cases_eq, cases_lt, eq-eqb, ne_eqb, eqb-true, lt-ltb, cond-true}
+use Rattle.std.proofs.Common.{◌≡◌, ℕ, zero, suc, ◌<◌, ◌≤◌, ◌≢◌, ◌↔◌, List, length, Some, None, Option, sym, refl, ap, ◌∙◌, ⊎_elim, arith}
+use Rattle.std.proofs.lemmas.Bool.{cases_eq, cases_lt}
 use Rattle.ports.specs.declared.transfer.Transfer.{Transfer}
 use Rattle.timetables.specs.declared.seat.Seat.{Seat}
 use Rattle.timetables.specs.Loads.{transfer_at}
 use Rattle.timetables.specs.Timetables.{seat_at}
 use Rattle.bookings.specs.declared.booking.Booking.{Booking}
-use Rattle.bookings.specs.Model.{Model, transfers, booking_at, Rising, has_ticket, position_of}
-use Rattle.bookings.proofs.Facts.{transfer_place}
+use Rattle.bookings.specs.Model.{Model, transfers, booking_at, Rising, position_of}
+use Rattle.bookings.proofs.Facts.{transfer_place, place_found, place_here}
 use Rattle.reports.specs.Likeness.{under_ticket, SameUnderTickets, SamePlaces}
 
 abbrev none : Booking
@@ -29,19 +26,10 @@ abbrev at_place : Model → List Seat → Option ℕ → Option (Transfer × ℕ
 at_place b ss None = None
 at_place b ss (Some i) = Some (transfer_at (transfers b.live) i, (seat_at ss i).round)
 
--- a ticket stands at its position
-found : (b : Model) (k i : ℕ) → position_of k b.live ≡ Some i → (i < length b.live) × (ticket b i ≡ k)
-found b k i e =
-    let p = position-Some (has_ticket k) b.live i none e in
-    (p.0, eqb-true (ticket b i) k p.1)
-
 module _ (b : Model) (rising : Rising b.given b.live) where
   -- where tickets rise, the place of a ticket is its position
   placed : (k i : ℕ) → i < length b.live → ticket b i ≡ k → position_of k b.live ≡ Some i
-  placed k i l e =
-      let before : (j : ℕ) → j < i → has_ticket k (booking_at b.live j) ≡ false = λ j m. ne_eqb (ticket b j) k (λ z. omega (arith, rising.rise j i m l)) in
-      let p : position_or_len (has_ticket k) b.live ≡ i = position_or_len_is (has_ticket k) b.live i none (omega arith) before (λ _. eq-eqb (ticket b i) k e) in
-      ap (λ n. cond (ltb n (length b.live)) (Some n) None) p ∙ cond-true (ltb i (length b.live)) (Some i) None (lt-ltb i (length b.live) l)
+  placed k i l e = place_here b.given k b.live rising i l (λ j m z. omega (arith, rising.rise j i m l)) e
 
   -- what stands under the ticket of a place is what stands at the place
   under : (ss : List Seat) (k i : ℕ) → i < length b.live → ticket b i ≡ k → under_ticket b ss k ≡ Some (standing b ss i)
@@ -50,7 +38,7 @@ module _ (b : Model) (rising : Rising b.given b.live) where
 -- what one table has under its tickets, the other has too
 module _ (b c : Model) (ss us : List Seat) (rising : Rising b.given b.live) (same : (k : ℕ) → under_ticket b ss k ≡ under_ticket c us k) where
   stands_at : (i : ℕ) (p : Option ℕ) → i < length b.live → position_of (ticket b i) c.live ≡ p → (j : ℕ) × (j < length c.live) × (ticket c j ≡ ticket b i)
-  stands_at i (Some j) l e = let f = found c (ticket b i) j e in (j, f.0, f.1)
+  stands_at i (Some j) l e = let f = place_found (ticket b i) j c.live e in (j, f.0, f.1)
   stands_at i None l e = let here = sym (under b rising ss (ticket b i) i l refl) ∙ same (ticket b i) ∙ ap (at_place c us) e in absurd cc
 
   stands : (i : ℕ) → i < length b.live → (j : ℕ) × (j < length c.live) × (ticket c j ≡ ticket b i)
@@ -75,8 +63,8 @@ module _ (b c : Model) (ss us : List Seat) (rising : Rising b.given b.live) (ris
 
     by_position : (k : ℕ) (o p : Option ℕ) → position_of k b.live ≡ o → position_of k c.live ≡ p → under_ticket b ss k ≡ under_ticket c us k
     unfolding SamePlaces
-    by_position k (Some i) p e f = let t = found b k i e in at_one k i t.0 t.1
-    by_position k None (Some i) e f = let t = found c k i f in at_one k i (omega arith) ((same i (omega arith)).ticket ∙ t.1)
+    by_position k (Some i) p e f = let t = place_found k i b.live e in at_one k i t.0 t.1
+    by_position k None (Some i) e f = let t = place_found k i c.live f in at_one k i (omega arith) ((same i (omega arith)).ticket ∙ t.1)
     by_position k None None e f = ap (at_place b ss) e ∙ sym (ap (at_place c us) f)
 
     same_under_tickets : (k : ℕ) → under_ticket b ss k ≡ under_ticket c us k
