@@ -5,8 +5,8 @@ ghost use Rattle.reports.specs.LoadLaws.{node_ranks, node_apart, round_ranks, ro
 
 use crate::choice::Ranked;
 
-// The side on which a transfer names a node: its sender on the sending side, its receiver on the receiving side. A derived order
-// has the sending side first.
+// The side on which a transfer names a node: its sender on the sending side, its receiver on the receiving side. The derived
+// order has the sending side first.
 #[derive(Clone, Copy, PartialEq, Eq, PartialOrd, Ord, Debug)]
 pub enum TransferSide {
     Sending,

@@ -28,8 +28,8 @@ const THREE: [Transfer; 3] = [
     },
 ];
 
-// The timetable of a new book with the three transfers. Before them the first is booked and cancelled so many times. Prints each
-// call, reports and seats.
+// The timetable of a new book with the three transfers. Before them the first is booked and cancelled so many times. Prints
+// each call, reports and seats.
 fn issue<K: Cabinet + Drop, A: Arranger + Drop, B: Arranger + Drop>(
     rt: &HostRuntime,
     kind: K,
@@ -65,8 +65,8 @@ fn show_alike(rt: &HostRuntime, are_alike: bool) -> anyhow::Result<()> {
     Ok(())
 }
 
-// Compares a timetable with one of the other kind, with one under other tickets, and with one by the two arrangers the other way
-// round.
+// Compares a timetable with one of the other kind, with one under other tickets, and with one by the two arrangers the other
+// way round.
 pub(crate) fn compare(rt: &HostRuntime) -> anyhow::Result<()> {
     let heap = rt.alloc();
     println!(rt; "folded, rounds by chain")?;

@@ -1,5 +1,5 @@
-// worked: short lists of calls. It prints what each call answers, and reports between. The first list is run over both cabinet kinds and with the
-// arrangers in both orders; the timetables of four more are compared.
+// worked: short lists of calls. It prints what each call answers, and reports between. The first list is run over both cabinet
+// kinds and with the arrangers in both orders; the timetables of four more are compared.
 //
 //   calls       what is printed of each call and each report
 //   filling     both rounds of a book filled, one booking too many, and seats for all
