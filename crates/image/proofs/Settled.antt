@@ -1,6 +1,6 @@
 -- The reading of an image ends without a fault exactly where the image means something, and with a fault exactly where that is
 -- what is wrong.
-use Rattle.std.proofs.Common.{◌≡◌, ℕ, zero, suc, ◌/◌, ◌<◌, ◌≤◌, false, List, length, get_or, drop, replicate, Some, None, Ok, Err, Option, Result, is_ok, true, refl, sym, ap, subst, ◌∙◌, inl, inr, arith}
+use Rattle.std.proofs.Common.{◌≡◌, ℕ, zero, suc, ◌/◌, ◌<◌, ◌≤◌, false, List, ◌++◌, length, get_or, drop, replicate, Some, None, Ok, Err, Option, Result, is_ok, true, refl, sym, ap, subst, ◌∙◌, inl, inr, arith}
 use Rattle.std.proofs.Math.ListN.{length-replicate}
 use Rattle.std.proofs.lemmas.Bool.{both_ways, true_from_ne_false}
 use Rattle.std.specs.Simd.{first_chunks}
@@ -16,9 +16,9 @@ use Rattle.failure.specs.declared.Failure.{Failure}
 use Rattle.failure.specs.declared.Failure.TheVariants.{Refused, OutOfMemory}
 use Rattle.ports.specs.declared.transfer.Transfer.{Transfer}
 use Rattle.image.specs.declared.refusal.ImageRefusal.{ImageRefusal}
-use Rattle.image.specs.Meaning.{JobImage, cell_count, cell, IsImageLength, IsHead, IsNotIn, Means, MeansTransfers, Reaches, transfers, IsStuck, past_end, visited, unsound, Fails, no_length, no_head, stuck}
+use Rattle.image.specs.Meaning.{JobImage, cell_count, cell, IsImageLength, IsHead, AreApart, IsUnsound, no_kind, transfer_spare_set, note_spare_set, not_labelled, IsNotIn, Means, MeansTransfers, Reaches, transfers, IsStuck, past_end, visited, unsound, Fails, no_length, no_head, stuck}
 use Rattle.image.proofs.Sounds.{length_decides, head_decides, decided}
-use Rattle.image.proofs.Walks.{Spot, Steps, at_end, at_past, at_visited, at_unsound, reader_at, Walks, ended, walk_read, read_walk, walk_leads, walk_other, walk_apart, walk_missed, leads_walk}
+use Rattle.image.proofs.Walks.{Spot, Steps, at_end, at_past, at_visited, at_unsound, reader_at, Walks, ended, walk_read, walk_begins, read_walk, walk_leads, walk_other, walk_apart, walk_missed, leads_walk}
 
 length_chunks : (w k : ℕ) (bs : List ℕ) → length (first_chunks w k bs) ≡ k
 length_chunks w zero bs = refl
@@ -109,6 +109,47 @@ module _ (s : JobImage) where
                   rw (read_head long head) (walk_right long _ k.0 k.1 head _ k.2)
             ]
       ]
+
+  -- what is read begins with what is reached
+  pub reach_begins : (xs : List NumberedRecord) (g e : ℕ) → Reaches s xs g e → (ys : List NumberedRecord) × ((image_reading s).records ≡ xs ++ ys)
+  reach_begins xs g e r =
+      let few = few_cells s r.long in
+      let k = leads_walk s few at_head xs g e r.leads r.apart (λ c v. absurd (both_ways _ (none_visited 2048 c) v)) in
+      (_, ap (λ a. a.records) (read_head r.long r.head) ∙ walk_begins s few k.1)
+
+  -- no two records that are read have the same cell
+  pub read_apart : AreApart (image_reading s).records
+  read_apart =
+      elim (decided _ (length_decides (length s.bytes))) [
+        | inr n ↦ rw (read_short n) tt
+        | inl long ↦
+            elim (decided _ (head_decides (cell s 0))) [
+              | inr n ↦ rw (read_no_head long n) tt
+              | inl head ↦
+                  let k = read_walk s (few_cells s long) 2049 at_head (omega arith) in
+                  rw (read_head long head) (walk_apart s (few_cells s long) k.1)
+            ]
+      ]
+
+  -- the number of a fault is 15 at least
+  unsound_number : (i : ℕ) (c : List ℕ) (f : Fault) → IsUnsound s.job s.site i c f → 15 ≤ f.refusal.number
+  unsound_number i c f (no_kind h) = omega arith
+  unsound_number i c f (transfer_spare_set k n) = omega arith
+  unsound_number i c f (note_spare_set k n) = omega arith
+  unsound_number i c f (not_labelled k z n) = omega arith
+
+  stuck_number : (xs : List NumberedRecord) (g e : ℕ) (f : Fault) → IsStuck s xs g e f → 15 ≤ f.refusal.number
+  stuck_number xs g e f (past_end far) = omega arith
+  stuck_number xs g e f (visited low n) = omega arith
+  stuck_number xs g e f (unsound u low n is) = unsound_number e (cell s e) u is
+
+  fail_number : (f : Fault) → Fails s f → 15 ≤ f.refusal.number
+  fail_number f (no_length n) = omega arith
+  fail_number f (no_head long n) = omega arith
+  fail_number f (stuck xs g e u r some t) = stuck_number xs g e u t
+
+  pub stop_number : (f : Fault) → (image_reading s).stop ≡ Some f → 15 ≤ f.refusal.number
+  stop_number f e = fail_number f (subst (IsRight (image_reading s).records) e read_right)
 
   -- what is made of a reading tells how it ends
   collected_ok : (xs : List NumberedRecord) (o : Option Fault) (ts : List Transfer) → collected transfers (record { records = xs; stop = o }) ≡ Ok ts → (o ≡ None) × (transfers xs ≡ ts)

@@ -1,5 +1,5 @@
 -- The way of a reader from cell to cell of an image, and that the reading is just what it passes.
-use Rattle.std.proofs.Common.{◌≡◌, ◌≢◌, ℕ, zero, suc, ◌<◌, ◌≤◌, Bool, true, false, List, [], ◌∷◌, length, get_or, set, Some, None, Ok, Err, Option, Result, refl, sym, ap, subst, ◌∙◌, ⊎_elim, inl, inr, arith, get_or-set_same, get_or-set_other, length-set}
+use Rattle.std.proofs.Common.{◌≡◌, ◌≢◌, ℕ, zero, suc, ◌<◌, ◌≤◌, Bool, true, false, List, [], ◌∷◌, ◌++◌, length, get_or, set, Some, None, Ok, Err, Option, Result, refl, sym, ap, subst, ◌∙◌, ⊎_elim, inl, inr, arith, get_or-set_same, get_or-set_other, length-set}
 use Rattle.std.proofs.lemmas.Bool.{both_ways, false_from_ne_true, cases_Bool, cases_eq, cases_lt}
 use Rattle.std.proofs.lemmas.Bool.Decides.{nat_tests}
 use Rattle.image.specs.declared.refusal.Layer.TheVariants.{Image}
@@ -143,6 +143,11 @@ module _ (s : JobImage) where
     walk_read {p = p} None stays t = read_on p _ t
     walk_read {p = p} (Some f) stays t = read_on p _ t
     walk_read {p = p} o (passes {x = x} is free k) t = read_on p (Ok (Some x)) (at_record x is free) ∙ ap (and_record x) (walk_read o k t)
+
+    -- a reading begins with what a walk passes
+    pub walk_begins : {p : Spot} {xs : List NumberedRecord} {q : Spot} → Walks p xs q → (reading (reader_at p)).records ≡ xs ++ (reading (reader_at q)).records
+    walk_begins stays = refl
+    walk_begins {p = p} (passes {x = x} is free k) = ap (λ r. r.records) (read_on p (Ok (Some x)) (at_record x is free)) ∙ ap (λ ys. x ∷ ys) (walk_begins k)
 
     -- and a reading is a walk to there
     abbrev pub IsWalk : Spot → Reading → Type 0

@@ -3,7 +3,7 @@ use Rattle.std.specs.Prelude.{ℕ, List, ◌∷◌, ◌++◌, None, codes}
 use Rattle.crossbar.specs.Refusals.{Refusal}
 use Rattle.crossbar.specs.Text.{two_digits, five_digits}
 use Rattle.image.specs.declared.refusal.Layer.{Layer}
-use Rattle.image.specs.declared.refusal.Layer.TheVariants.{Image, Record}
+use Rattle.image.specs.declared.refusal.Layer.TheVariants.{Image, Record, Booking, Fit}
 use Rattle.image.specs.declared.refusal.ImageRefusal.{ImageRefusal}
 use Rattle.image.specs.declared.refusal.ImageRefusal.TheVariants.{Length, Head, PastEnd, Visited, Kind, Spare, Label}
 
@@ -27,12 +27,17 @@ image_fault (Kind c) = fault 20 c Record
 image_fault (Spare c) = fault 21 c Record
 image_fault (Label c) = fault 22 c Record
 
--- I and R
+-- I, R, B and F
 abbrev pub layer_letter : Layer → ℕ
 layer_letter Image = 73
 layer_letter Record = 82
+layer_letter Booking = 66
+layer_letter Fit = 70
 
 -- the number in two digits, the letter of the layer, and the cell in five digits
+abbrev pub fault_words : ℕ → Layer → ℕ → List ℕ
+fault_words number layer cell =
+    codes "refused " ++ (two_digits number ++ (codes " " ++ (layer_letter layer ∷ (codes " " ++ five_digits cell))))
+
 abbrev pub fault_text : Fault → List ℕ
-fault_text f =
-    codes "refused " ++ (two_digits f.refusal.number ++ (codes " " ++ (layer_letter f.layer ∷ (codes " " ++ five_digits f.cell))))
+fault_text f = fault_words f.refusal.number f.layer f.cell

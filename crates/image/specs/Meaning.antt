@@ -3,6 +3,7 @@
 use Rattle.std.specs.Prelude.{◌≡◌, ℕ, ◌+◌, ◌%◌, ◌<◌, ◌≤◌, ◌≢◌, ◌⊎◌, List, [], ◌∷◌, length, take, Some, None, ⊤}
 use Rattle.std.specs.List.{flat_map}
 use Rattle.ports.specs.declared.transfer.Transfer.{Transfer}
+use Rattle.image.specs.declared.labels.Texts.{Texts}
 use Rattle.image.specs.declared.refusal.Layer.TheVariants.{Image, Record as RecordLayer}
 use Rattle.image.specs.Cells.{byte, word, cells_of, cell_at, next_index}
 use Rattle.image.specs.Faults.{Fault, fault}
@@ -16,6 +17,10 @@ pub record JobImage : Type 0 where
 
 abbrev pub job_image : List ℕ → List ℕ → List ℕ → JobImage
 job_image bytes job site = record { bytes = bytes; job = job; site = site }
+
+-- those of an image, with the two texts as a caller hands them over
+abbrev pub with_texts : List ℕ → Texts → JobImage
+with_texts bytes texts = job_image bytes texts.job.now texts.site.now
 
 -- how many cells there are
 abbrev pub cell_count : JobImage → ℕ

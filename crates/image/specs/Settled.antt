@@ -14,6 +14,10 @@ use Rattle.image.specs.Records.{NumberedRecord}
 unfoldable pub image_reading : JobImage → Reading
 image_reading s = elim (opened_due s.bytes) [ Err f ↦ stopped (Some f) | Ok o ↦ reading (reader_at_head s.job s.site o) ]
 
+-- the transfers of the records that are read, to the end or up to the first fault
+abbrev pub transfers_read : JobImage → List Transfer
+transfers_read s = transfers (image_reading s).records
+
 -- the transfers of the records that are read, or the fault
 abbrev pub transfers_due : JobImage → Result (List Transfer) Fault
 transfers_due s = collected transfers (image_reading s)

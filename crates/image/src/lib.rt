@@ -1,7 +1,7 @@
 // Job images: what their bytes mean.
 //
 //   refusal     why an image is refused
-//   text        refusals as text
+//   text        faults and refusals as text
 //   head        the head of an image
 //   fields      the fields of a record's cell
 //   labels      the labels of transfers

@@ -5,13 +5,17 @@ ghost use Rattle.image.specs.Faults.{image_fault, layer_letter};
 
 use failure::Failure;
 
-// The layer that refuses.
+// The layer that refuses. An image is refused by the first two, a load by the third as well, a printout by all.
 #[derive(Clone, Copy, PartialEq, Eq, Debug)]
 pub enum Layer {
     // the image as a whole, and the chain through it
     Image,
     // a record by itself
     Record,
+    // the booking of a record's transfer
+    Booking,
+    // the fit to the sizes and rounds in the head
+    Fit,
 }
 
 impl Layer {
@@ -22,6 +26,8 @@ impl Layer {
         match self {
             Layer::Image => 'I',
             Layer::Record => 'R',
+            Layer::Booking => 'B',
+            Layer::Fit => 'F',
         }
     }
 }

@@ -2,7 +2,7 @@
 ghost use Rattle.std.specs.Prelude.{◌≡◌, IfOk, vec_items};
 ghost use Rattle.failure.specs.Failures.{AnswersBy};
 ghost use Rattle.image.specs.Faults.{image_fault};
-ghost use Rattle.image.specs.Meaning.{job_image, transfers};
+ghost use Rattle.image.specs.Meaning.{with_texts, transfers};
 ghost use Rattle.image.specs.Readings.{reader, reading};
 ghost use Rattle.image.specs.Settled.{transfers_due, IsSettled, Tells};
 
@@ -35,9 +35,9 @@ pub fn read_transfers(
     image: &[u8],
     texts: Texts<'_>,
 ) -> Result<Vec<Transfer>, ImageError>
-    ensures answer { AnswersBy image_fault vec_items result (transfers_due (job_image image.now texts.entry.job.now texts.entry.site.now)) }
-    ensures tells { Tells (job_image image.now texts.entry.job.now texts.entry.site.now) vec_items result }
-    ensures settled { IsSettled (job_image image.now texts.entry.job.now texts.entry.site.now) }
+    ensures answer { AnswersBy image_fault vec_items result (transfers_due (with_texts image.now texts.entry)) }
+    ensures tells { Tells (with_texts image.now texts.entry) vec_items result }
+    ensures settled { IsSettled (with_texts image.now texts.entry) }
 {
     let image = Image::open(image)?;
     image.check(texts)?;

@@ -4,7 +4,7 @@ ghost use Rattle.std.specs.List.{flat_map};
 ghost use Rattle.failure.specs.Failures.{AnswersBy};
 ghost use Rattle.image.specs.Faults.{image_fault};
 ghost use Rattle.image.specs.Images.{opened};
-ghost use Rattle.image.specs.Meaning.{job_image};
+ghost use Rattle.image.specs.Meaning.{with_texts};
 ghost use Rattle.image.specs.Readings.{reader, reader_at_head, reading};
 ghost use Rattle.image.specs.Records.{parts};
 ghost use Rattle.listings.specs.Listings.{head_line, record_text, record_line, image_lines, listing_due};
@@ -98,7 +98,7 @@ fn image_lines(heap: Global, image: Image<'_>, texts: Texts<'_>) -> Result<Strin
 // The listing of an image: a line of the head, and a line of each record of the chain in order.
 #[tactic(auto, using(image::proofs::Images::opened_head), unfolding(image::specs::Settled::image_reading))]
 pub fn listing(heap: Global, image: &[u8], texts: Texts<'_>) -> Result<String, ImageError>
-    ensures { AnswersBy image_fault string_bytes result (listing_due (job_image image.now texts.entry.job.now texts.entry.site.now)) }
+    ensures { AnswersBy image_fault string_bytes result (listing_due (with_texts image.now texts.entry)) }
 {
     let image = Image::open(image)?;
     image.check(texts)?;
