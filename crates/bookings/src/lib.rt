@@ -1,6 +1,6 @@
-// The live transfers of a book under their tickets: fitting, booking and cancelling, with the refusals of each.
+// The live transfers of a book under their tickets: fitting, booking, loading and cancelling, with the refusals of each.
 //
-//   refusal    why a fit, a booking or a call with a ticket is refused, by number
+//   refusal    why a fit, a booking, a load or a call with a ticket is refused, by number
 //   booking    a transfer under its ticket
 //   loads      how many transfers each node sends and receives
 //   text       refusals as text

@@ -1,10 +1,13 @@
 // Refusals as text.
 ghost use Rattle.std.specs.Prelude.{Some};
 ghost use Rattle.crossbar.specs.Text.{refusal_text};
+ghost use Rattle.image.specs.Faults.{fault_text};
+ghost use Rattle.bookings.specs.Faults.{load_fault};
 ghost use Rattle.bookings.specs.Refusals.{fit_refusal, booking_refusal, ticket_refusal};
 
-use crate::refusal::{BookRefusal, FitRefusal, TicketRefusal};
+use crate::refusal::{BookRefusal, FitRefusal, LoadRefusal, TicketRefusal};
 use crossbar::digits::TwoDigits;
+use image::text::FaultText;
 use std::fmt;
 
 // The number in two digits.
@@ -36,5 +39,18 @@ impl fmt::Display for TicketRefusal {
 
     fn fmt<W: fmt::Write>(&self, f: &mut fmt::Formatter<W>) -> fmt::Result {
         write!(f, "refused {}", TwoDigits(self.number()))
+    }
+}
+
+impl fmt::Display for LoadRefusal {
+    ghost output = { λ e. Some (fault_text (load_fault e)) };
+
+    fn fmt<W: fmt::Write>(&self, f: &mut fmt::Formatter<W>) -> fmt::Result {
+        let text = FaultText {
+            number: self.number(),
+            layer: self.layer(),
+            cell: self.cell(),
+        };
+        write!(f, "{text}")
     }
 }

@@ -150,7 +150,7 @@ impl Table {
 
     // Takes the live transfer at a place out and answers it.
     #[tactic(auto, using(crate::proofs::Tickets::rising_remove))]
-    fn take_out(&mut self, place: usize) -> Transfer
+    pub(super) fn take_out(&mut self, place: usize) -> Transfer
         requires { place < length (model self.old).live }
         ensures transfer { result ≡ transfer_at (transfers (model self.old).live) place }
         ensures table { model self.new ≡ taken_out (model self.old) place }

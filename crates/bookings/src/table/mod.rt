@@ -6,6 +6,7 @@ ghost use Rattle.bookings.specs.Model.{transfers, Rising};
 ghost use Rattle.bookings.specs.Counts.{Counted};
 
 mod calls;
+mod loading;
 mod reads;
 
 use crate::booking::Booking;
