@@ -6,3 +6,4 @@ mod Spreading
 mod Seating
 mod ByNode
 mod Answering
+mod Loading

@@ -6,15 +6,19 @@ ghost use Rattle.crossbar.specs.Refusals.{told_by};
 ghost use Rattle.bookings.specs.Refusals.{fit_refusal, booking_refusal, ticket_refusal};
 ghost use Rattle.bookings.specs.Model.{new_book, transfers, fit_due, fitted, booking_due, booked, cancel_due, cancelled};
 ghost use Rattle.bookings.specs.Tables.{model};
-ghost use Rattle.book.specs.Calls.{Seated, Delivered, LeastExactly, FullExactly};
+ghost use Rattle.image.specs.Meaning.{with_texts};
+ghost use Rattle.bookings.specs.Faults.{told_load};
+ghost use Rattle.bookings.specs.Loading.{load_due, loaded, Adds};
+ghost use Rattle.book.specs.Calls.{Seated, Delivered, LeastExactly, FullExactly, LoadFullExactly};
 ghost use Rattle.book.specs.Books.{drafted, issued, seats, Untouched};
 
 use super::Draft;
 use crate::desk::Desk;
 use crate::timetable::Timetable;
-use bookings::refusal::{BookRefusal, FitRefusal, TicketRefusal};
+use bookings::refusal::{BookRefusal, FitRefusal, LoadRefusal, TicketRefusal};
 use bookings::table::Table;
 use cabinet::kind::Cabinet;
+use image::labels::Texts;
 use lines::arranger::Arranger;
 use ports::sizes::Sizes;
 use ports::transfer::Transfer;
@@ -65,6 +69,18 @@ impl<K: Cabinet, A: Arranger, B: Arranger> Draft<K, A, B> {
         self.table.book(transfer)
     }
 
+    // Books the transfers of a job image in the order of its chain, all or none, and answers the first ticket and how many
+    // there are; where there are none, the next ticket, which can be 65,536.
+    pub fn load(&mut self, image: &[u8], texts: Texts<'_>) -> Result<(u32, u16), LoadRefusal>
+        ensures answer { told_load result ≡ load_due (drafted self.old) (with_texts image.now texts.entry) }
+        ensures book { drafted self.new ≡ loaded (drafted self.old) (with_texts image.now texts.entry) }
+        ensures others { Untouched self.old self.new }
+        ensures adds { Adds (drafted self.old) (with_texts image.now texts.entry) (told_load result) (drafted self.new) }
+        ensures full { LoadFullExactly K.meaning (drafted self.old) (with_texts image.now texts.entry) (told_load result) }
+    {
+        self.table.load(image, texts)
+    }
+
     // Takes a live transfer out and answers its two nodes. No other transfer changes.
     pub fn cancel(&mut self, ticket: u16) -> Result<(u16, u16), TicketRefusal>
         ensures answer { told_by ticket_refusal result ≡ cancel_due (drafted self.old) ticket }
@@ -76,7 +92,7 @@ impl<K: Cabinet, A: Arranger, B: Arranger> Draft<K, A, B> {
 
     // How few rounds would do for the live transfers; 0 where none is live.
     pub fn need(&self) -> u8
-        ensures load { result ≡ largest_load (transfers (drafted self.now).live) }
+        ensures largest { result ≡ largest_load (transfers (drafted self.now).live) }
         ensures least { LeastExactly K.meaning (drafted self.now) result }
     {
         self.table.need()
