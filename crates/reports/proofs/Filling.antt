@@ -3,11 +3,12 @@ use Rattle.std.proofs.Common.{◌≡◌, ℕ, ◌<◌, ◌≤◌, false, List, l
 use Rattle.std.specs.List.{range_with_len}
 use Rattle.std.proofs.lemmas.List.FromFn.{fill_by_all, take-map-range_with_len, get_or-map-range_with_len, length-map-range_with_len}
 use Rattle.timetables.specs.declared.seat.Seat.{Seat}
+use Rattle.timetables.specs.Timetables.{in_round}
 use Rattle.reports.specs.declared.loads.RoundLoad.{RoundLoad}
 use Rattle.reports.specs.Choice.{best_due, IsBest}
 use Rattle.reports.specs.Loads.{round_above}
 use Rattle.reports.specs.LoadLaws.{round_ranks, round_apart}
-use Rattle.reports.specs.Fullest.{in_round, round_load_of, fullest_due, Fullest}
+use Rattle.reports.specs.Fullest.{round_load_of, fullest_due, Fullest}
 use Rattle.reports.specs.Steps.{Counts, round_key, round_loads}
 use Rattle.reports.proofs.Choosing.{best_among, best_none}
 use Rattle.reports.proofs.Counting.{counts_of_64}

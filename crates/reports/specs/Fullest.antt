@@ -1,14 +1,11 @@
 -- The fullest round.
-use Rattle.std.specs.Prelude.{◌≡◌, ℕ, ◌<◌, ◌≤◌, false, List, map, count_by, nat_eq, Option}
+use Rattle.std.specs.Prelude.{◌≡◌, ℕ, ◌<◌, ◌≤◌, false, List, map, Option}
 use Rattle.std.specs.List.{range_with_len}
 use Rattle.timetables.specs.declared.seat.Seat.{Seat}
+use Rattle.timetables.specs.Timetables.{in_round}
 use Rattle.reports.specs.declared.loads.RoundLoad.{RoundLoad}
 use Rattle.reports.specs.Choice.{best_due}
 use Rattle.reports.specs.Loads.{round_above}
-
--- how many transfers have the round k; each has one seat
-abbrev pub in_round : ℕ → List Seat → ℕ
-in_round k ss = count_by (λ s. nat_eq s.round k) ss
 
 -- the load of the round k
 abbrev pub round_load_of : List Seat → ℕ → RoundLoad

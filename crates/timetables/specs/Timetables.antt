@@ -1,5 +1,5 @@
 -- What a clash-free timetable is, and when one exists.
-use Rattle.std.specs.Prelude.{◌≡◌, ℕ, ◌<◌, ◌≤◌, ◌≢◌, true, ◌↔◌, List, [], length, Ok, slice_index_or}
+use Rattle.std.specs.Prelude.{◌≡◌, ℕ, ◌<◌, ◌≤◌, ◌≢◌, true, ◌↔◌, List, [], length, count_by, nat_eq, Ok, slice_index_or}
 use Rattle.ports.specs.declared.transfer.Transfer.{Transfer}
 use Rattle.ports.specs.Checks.{lines_fit, nodes_fit}
 use Rattle.cabinet.specs.Wiring.{Meaning, walk, bytes_of}
@@ -11,6 +11,10 @@ use Rattle.crossbar.specs.declared.wires.Wire.{Wire}
 -- the seat at place i
 abbrev pub seat_at : List Seat → ℕ → Seat
 seat_at ss i = slice_index_or ss i (record { round = 0; spine = 0 })
+
+-- how many transfers have the round k; each has one seat
+abbrev pub in_round : ℕ → List Seat → ℕ
+in_round k ss = count_by (λ s. nat_eq s.round k) ss
 
 -- the wires that the transfer at place i crosses, with the header for the spine of its seat
 abbrev pub wires : Meaning → List Transfer → List Seat → ℕ → List Wire
