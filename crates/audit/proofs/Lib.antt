@@ -1,0 +1,7 @@
+-- The law over histories, call by call.
+mod Pushing
+mod Replaying
+mod Stepping
+mod Small
+mod Refuting
+mod Admitting
