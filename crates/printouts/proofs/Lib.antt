@@ -1,0 +1,3 @@
+-- Lemmas about printouts.
+pub mod Collecting
+pub mod Planning

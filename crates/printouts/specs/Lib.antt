@@ -1,0 +1,3 @@
+-- The specifications of this crate.
+pub mod Faults
+pub mod Plans
