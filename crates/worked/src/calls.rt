@@ -5,12 +5,14 @@ use bookings::booking::Booking;
 use bookings::table::Table;
 use cabinet::kind::Cabinet;
 use crossbar::digits::Hex;
+use image::labels::Texts;
 use lines::arranger::Arranger;
 use ports::sizes::Sizes;
 use ports::transfer::Transfer;
 use reports::fullest::fullest;
 use reports::heaviest::heaviest;
 use reports::loads::{NodeLoad, RoundLoad, TransferSide};
+use sheets::sheet::sheet;
 
 // Sets sizes and rounds and prints the answer.
 pub(crate) fn fit<K: Cabinet, A: Arranger, B: Arranger>(
@@ -50,6 +52,24 @@ pub(crate) fn cancel<K: Cabinet, A: Arranger, B: Arranger>(
     match draft.cancel(ticket) {
         Ok((sender, receiver)) => println!(rt; "cancel {ticket}: {sender}->{receiver}")?,
         Err(refusal) => println!(rt; "cancel {ticket}: {refusal}")?,
+    }
+    Ok(())
+}
+
+// Loads an image whose labels are parts of two empty texts, and prints the answer.
+pub(crate) fn load<K: Cabinet, A: Arranger, B: Arranger>(
+    rt: &HostRuntime,
+    draft: &mut Draft<K, A, B>,
+    name: &str,
+    image: &[u8],
+) -> anyhow::Result<()> {
+    let texts = Texts {
+        job: &[],
+        site: &[],
+    };
+    match draft.load(image, texts) {
+        Ok((first, count)) => println!(rt; "load {name}: {count} from ticket {first}")?,
+        Err(refusal) => println!(rt; "load {name}: {refusal}")?,
     }
     Ok(())
 }
@@ -94,5 +114,19 @@ pub(crate) fn show_fullest<K: Cabinet, A: Arranger, B: Arranger>(
 ) -> anyhow::Result<()> {
     let RoundLoad { round, count } = fullest(timetable);
     println!(rt; "fullest: round {round} has {count}")?;
+    Ok(())
+}
+
+// Prints the sheet of a round, which the buffer is to hold, or why it is refused.
+pub(crate) fn show_sheet<K: Cabinet, A: Arranger, B: Arranger>(
+    rt: &HostRuntime,
+    timetable: &Timetable<K, A, B>,
+    round: u8,
+    buffer: &mut [u8],
+) -> anyhow::Result<()> {
+    match sheet(timetable, round, buffer) {
+        Ok(length) => rt.write_all(&buffer[..length])?,
+        Err(refusal) => println!(rt; "sheet {round}: {refusal}")?,
+    }
     Ok(())
 }
