@@ -1,8 +1,10 @@
 -- The example permutation, and what its sets are.
-use Rattle.std.specs.Prelude.{◌≡◌, ℕ, List, [], ◌∷◌}
+use Rattle.std.specs.Prelude.{◌≡◌, ℕ, ◌⊎◌, List, [], ◌∷◌, Ok, Err, Result}
+use Rattle.std.specs.declared.alloc.AllocError.{AllocError}
 use Rattle.failure.specs.declared.Failure.{Failure}
 use Rattle.failure.specs.declared.Failure.TheVariants.{Refused, OutOfMemory}
 use Rattle.lines.specs.declared.refusal.ArrangeRefusal.{ArrangeRefusal}
+use Rattle.lines.specs.Arrangers.{grown}
 use Rattle.spinesets.specs.declared.assigned.Assigned.{Assigned}
 use Rattle.ports.specs.declared.transfer.Transfer.{Transfer}
 use Rattle.spinesets.specs.Sharing.{Shared}
@@ -19,6 +21,12 @@ permutation =
 -- the text of four sets over which the permutation is shared out
 abbrev pub ExampleSets : List ℕ → Type 0
 ExampleSets text = (xs : List Assigned) × Shared 4 permutation xs × (text ≡ sets_text 4 xs)
+
+-- a meter before and after: it has grown by the twelve transfers where the text is handed out; where there is no memory, it
+-- is as it was or has grown by them
+abbrev pub ExampleMeter : {A : Type 0} → Result A AllocError → ℕ → ℕ → Type 0
+ExampleMeter (Ok _) before after = after ≡ grown before 12
+ExampleMeter (Err _) before after = (after ≡ before) ⊎ (after ≡ grown before 12)
 
 -- an error is no refusal
 abbrev pub NotRefused : Failure ArrangeRefusal → Type 0

@@ -1,6 +1,6 @@
 // A permutation of the twelve nodes of a cabinet with three lines of four nodes.
 ghost use Rattle.std.specs.Prelude.{IfOk, string_bytes};
-ghost use Rattle.spinesets.specs.Example.{NotRefused, ExampleSets};
+ghost use Rattle.spinesets.specs.Example.{NotRefused, ExampleSets, ExampleMeter};
 
 use crate::share::{ShareError, share_out};
 use crate::text::sets_text;
@@ -64,7 +64,8 @@ const PERMUTATION: [Transfer; 12] = [
 // The sets of the four spines. No arranger refuses them: each serves four colours, and no line has more than four
 // transfers.
 pub fn example_sets<A: Arranger>(heap: Global, arranger: &mut A) -> Result<String, AllocError>
-    ensures { IfOk result (λ t. ExampleSets (string_bytes t)) }
+    ensures sets { IfOk result (λ t. ExampleSets (string_bytes t)) }
+    ensures meter { ExampleMeter result (A.shows arranger.old) (A.shows arranger.new) }
 {
     match share_out(heap, arranger, &PERMUTATION, 4) {
         Ok(assigned) => sets_text(heap, 4, assigned.as_slice()),

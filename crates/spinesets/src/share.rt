@@ -1,7 +1,8 @@
 // The spines that an arranger gives to the transfers of one round.
-ghost use Rattle.std.specs.Prelude.{◌≡◌, ◌<◌, map, length, IfOk};
-ghost use Rattle.std.specs.List.{zip};
-ghost use Rattle.spinesets.specs.Sharing.{lines_of, assigned, Shares};
+ghost use Rattle.std.specs.Prelude.{◌≡◌, map, length, is_ok, if◌then◌else◌, IfOk};
+ghost use Rattle.lines.specs.Arrangers.{grown};
+ghost use Rattle.lines.specs.Lines.{colours};
+ghost use Rattle.spinesets.specs.Sharing.{lines_of, unassigned, transfers_of, spines_of, Shares};
 
 use crate::assigned::Assigned;
 use failure::Failure;
@@ -25,43 +26,56 @@ fn as_lines(heap: Global, transfers: &[Transfer], n: u8) -> Result<Vec<Line>, Al
         .collect(heap)
 }
 
-// A transfer with the colour of its line.
-fn assigned(transfer: Transfer, line: Line) -> Assigned
-    ensures { result ≡ assigned (transfer, line) }
+// A transfer with spine 0, until it is given its own.
+fn unassigned(transfer: Transfer) -> Assigned
+    ensures { result ≡ unassigned transfer }
 {
-    Assigned {
-        transfer,
-        spine: line.colour,
-    }
+    Assigned { transfer, spine: 0 }
 }
 
-// Each transfer with the colour of its line.
-fn assign(heap: Global, transfers: &[Transfer], lines: &[Line]) -> Result<Vec<Assigned>, AllocError>
-    requires { length transfers.now ≡ length lines.now }
-    ensures { IfOk result (λ v. v.items ≡ map assigned (zip transfers.now lines.now)) }
+// Each transfer with spine 0, in order.
+fn all_unassigned(heap: Global, transfers: &[Transfer]) -> Result<Vec<Assigned>, AllocError>
+    ensures { IfOk result (λ v. v.items ≡ map unassigned transfers.now) }
 {
     transfers
         .iter()
-        .zip(lines)
-        .map(|(transfer, line)| assigned(*transfer, *line))
+        .map(|transfer| unassigned(*transfer))
         .collect(heap)
 }
 
+// Gives each transfer the spine that is the colour of its line. The lines are read by number: of transfers written
+// through a `zip` nothing would be known.
+#[tactic(auto, using(crate::proofs::Steps::assigning))]
+fn assign(assigned: &mut [Assigned], lines: &[Line])
+    requires { length assigned.old ≡ length lines.now }
+    ensures transfers { transfers_of assigned.new ≡ transfers_of assigned.old }
+    ensures spines { spines_of assigned.new ≡ colours lines.now }
+{
+    for (i, one) in assigned.iter_mut().enumerate() {
+        one.spine = lines[i].colour;
+    }
+}
+
 // Gives each transfer one of n spines, such that transfers with a common send line or a common receive line have
-// different ones; n nodes stand on each line.
+// different ones; n nodes stand on each line. All memory is got before the arranger is called, so that without memory its
+// meter stays as it was.
 pub fn share_out<A: Arranger>(
     heap: Global,
     arranger: &mut A,
     transfers: &[Transfer],
     n: u8,
 ) -> Result<Vec<Assigned>, ShareError>
-    ensures { Shares result (A.served n) n transfers.now }
+    ensures spines { Shares result (A.served n) n transfers.now }
+    ensures meter { A.shows arranger.new ≡ (if is_ok result
+        then grown (A.shows arranger.old) (length transfers.now)
+        else A.shows arranger.old) }
 {
     if !arranger.serves(n) {
         return Err(Failure::Refused(ArrangeRefusal::NotServed));
     }
     let mut lines = as_lines(heap, transfers, n)?;
+    let mut assigned = all_unassigned(heap, transfers)?;
     arranger.arrange(lines.as_mut_slice(), n)?;
-    let assigned = assign(heap, transfers, lines.as_slice())?;
+    assign(assigned.as_mut_slice(), lines.as_slice());
     Ok(assigned)
 }
