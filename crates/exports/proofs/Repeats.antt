@@ -1,9 +1,9 @@
 -- Lines that are arranged again and again.
-use Rattle.std.proofs.Common.{◌≡◌, ℕ, ◌+◌, ◌<◌, ◌≤◌, Bool, false, ◌||◌, eqb, ltb, List, [], ◌∷◌, Some, None, Option, sym, refl, ap, ◌∙◌, ⊎_elim, arith}
+use Rattle.std.proofs.Common.{◌≡◌, ℕ, ◌*◌, ◌<◌, ◌≤◌, Bool, false, ◌||◌, eqb, ltb, List, [], ◌∷◌, Some, None, Option, sym, refl, ap, ◌∙◌, ⊎_elim, arith}
 use Rattle.std.proofs.lemmas.Bool.{cases_lt, cond-false, ne_eqb}
 use Rattle.lines.specs.declared.line.Line.{Line}
 use Rattle.lines.specs.Lines.{ends}
-use Rattle.lines.specs.Arrangers.{Arranged}
+use Rattle.lines.specs.Arrangers.{grown}
 use Rattle.lines.specs.Refusals.{Refusal, end_above, refusal_due}
 use Rattle.lines.proofs.Places.{same_length}
 use Rattle.exports.specs.Bytes.{refusal_in, Repeated}
@@ -33,30 +33,25 @@ pub ends_so : (i c : ℕ) (start ls : List Line) → Repeated i c start ls → e
 ends_so i c start ls so =
     ⊎_elim (λ (q : i < 1). ap ends (so.idle (omega arith))) (λ (q : 1 ≤ i). (so.arranged q).same) (cases_lt i 1)
 
--- after i calls, and one call more
+-- after i calls
 module _ (served : Bool) (c i : ℕ) (start ls : List Line) (so : Repeated i c start ls) where
   due_so : refusal_due served c ls ≡ refusal_due served c start
   due_so = due_same served c start ls (ends_so i c start ls so)
 
-  pub none_more : refusal_due served c ls ≡ None → refusal_in (i + 1) served c start ≡ None
-  none_more e = in_some (i + 1) served c start (omega arith) ∙ sym due_so ∙ e
-
-  pub repeated_more : (ms : List Line) → Arranged c ls ms → Repeated (i + 1) c start ms
-  repeated_more ms a =
-      record {
-        idle = λ z. absurd (omega arith);
-        arranged = λ z. record { same = a.same ∙ ends_so i c start ls so; proper = a.proper };
-      }
-
   pub told_so : (n : ℕ) (o : Option Refusal) → i < n → o ≡ refusal_due served c ls → o ≡ refusal_in n served c start
   told_so n o l e = e ∙ due_so ∙ sym (in_some n served c start (omega arith))
 
-  pub refused_so : (r : Refusal) (ms : List Line) → refusal_in i served c start ≡ None → Some r ≡ refusal_due served c ls → ms ≡ ls → ms ≡ start
-  refused_so r ms none e m =
+  -- a refusal can come in the first call only
+  pub first_so : (r : Refusal) → refusal_in i served c start ≡ None → Some r ≡ refusal_due served c ls → i ≡ 0
+  first_so r none e =
       ⊎_elim
-      (λ (q : i < 1). m ∙ so.idle (omega arith))
+      (λ (q : i < 1). omega arith)
       (λ (q : 1 ≤ i).
       let x = in_some i served c start q in
       let y = due_so in
       absurd (let z : ◌≡◌ {A = ℕ} 0 1 = cc in omega arith))
       (cases_lt i 1)
+
+-- before the first call the meter m is as it was
+pub meter_first : (m n i x : ℕ) → m ≤ 4294967295 → x ≡ grown m (i * n) → i ≡ 0 → x ≡ m
+meter_first m n i x stop e zero = e ∙ rw zero (omega arith)

@@ -1,9 +1,10 @@
 // Arranges lines that stand in bytes, by any arranger.
-ghost use Rattle.std.specs.Prelude.{◌≡◌};
+ghost use Rattle.std.specs.Prelude.{◌≡◌, ◌*◌, length, is_ok, if◌then◌else◌};
 ghost use Rattle.lines.specs.Refusals.{told};
+ghost use Rattle.lines.specs.Arrangers.{grown, meter_after};
 ghost use Rattle.failure.specs.declared.Failure.TheVariants.{Refused};
 ghost use Rattle.exports.specs.declared.error.BytesRefusal.TheVariants.{Lines};
-ghost use Rattle.exports.specs.Bytes.{refusal_in, Repeats, Rewrites, Outcome, code_of};
+ghost use Rattle.exports.specs.Bytes.{lines_of, refusal_in, Repeats, Rewrites, Outcome, code_of};
 
 use crate::bytes::{are_whole, decode, recolour};
 use crate::error::{BytesError, BytesRefusal};
@@ -22,6 +23,7 @@ fn repeat<A: Arranger>(
 ) -> Result<(), ArrangeRefusal>
     ensures refused { told result ≡ refusal_in times (A.served c) c lines.old }
     ensures lines { Repeats result times c lines.old lines.new }
+    ensures meter { A.shows arranger.new ≡ meter_after result (times * length lines.old) (A.shows arranger.old) }
 {
     for _done in 0..times {
         arranger.arrange(lines, c)?;
@@ -44,7 +46,10 @@ pub fn arrange_bytes<A: Arranger>(
     c: u8,
     times: u32,
 ) -> Result<(), BytesError>
-    ensures { Rewrites result times (A.served c) c bytes.old bytes.new }
+    ensures bytes { Rewrites result times (A.served c) c bytes.old bytes.new }
+    ensures meter { A.shows arranger.new ≡ (if is_ok result
+        then grown (A.shows arranger.old) (times * length (lines_of bytes.old))
+        else A.shows arranger.old) }
 {
     if !are_whole(bytes) {
         return Err(Failure::Refused(BytesRefusal::BrokenLine));

@@ -6,8 +6,8 @@ use Rattle.exports.specs.Bytes.{lines_of, Repeated}
 use Rattle.exports.proofs.Outcomes.{rewritten, accepted}
 use Rattle.exports.proofs.arrange.arrange_bytes.Goals as goal
 
-pub returns : goal.returns
-returns g c =
+pub returns-clause-bytes : goal.returns-clause-bytes
+returns-clause-bytes g c =
     let made = c.as_mut_slice.ensures.value ∙ c.in_ok-lines.ensures in
     let stand = c.as_slice.ensures.value ∙ take_at c.repeat.new.lines _ _ (c.repeat.auto.lines ∙ c.as_mut_slice.ensures.len) in
     let ok = accepted _ c.repeat.result _ c.args.times c.args.c _ c.repeat.new.lines c.in_ok-map_err.ensures.cases (rw made at c.repeat.ensures.refused) (rw made at c.repeat.ensures.lines) in
