@@ -12,7 +12,8 @@ use Rattle.lines.specs.Lines.{ends, colours, Proper}
 use Rattle.lines.specs.Refusals.{refusal, refusal_due, lowest_above}
 use Rattle.lines.proofs.Places.{colour_line, length_colours}
 use Rattle.spinesets.specs.declared.assigned.Assigned.{Assigned}
-use Rattle.spinesets.specs.Sharing.{lines_of, unassigned, transfers_of, spines_of, Shared, Shares}
+use Rattle.spinesets.specs.Inner.{unassigned}
+use Rattle.spinesets.specs.Sharing.{lines_of, transfers_of, spines_of, Shared, Shares}
 use Rattle.spinesets.specs.Example.{permutation, NotRefused}
 
 -- transfers that have no spine yet

@@ -1,3 +1,4 @@
 pub mod Sharing
 pub mod Text
 pub mod Example
+pub mod Inner

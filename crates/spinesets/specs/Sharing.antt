@@ -15,10 +15,6 @@ use Rattle.ports.specs.declared.transfer.Transfer.{Transfer}
 abbrev pub lines_of : ℕ → List Transfer → List Line
 lines_of n ts = map (by_line n) ts
 
--- a transfer that has not got a spine yet: spine 0 stands in its place
-abbrev pub unassigned : Transfer → Assigned
-unassigned t = record { transfer = t; spine = 0 }
-
 abbrev pub transfers_of : List Assigned → List Transfer
 transfers_of xs = map (λ a. a.transfer) xs
 

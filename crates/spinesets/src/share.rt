@@ -2,7 +2,8 @@
 ghost use Rattle.std.specs.Prelude.{◌≡◌, map, length, is_ok, if◌then◌else◌, IfOk};
 ghost use Rattle.lines.specs.Arrangers.{grown};
 ghost use Rattle.lines.specs.Lines.{colours};
-ghost use Rattle.spinesets.specs.Sharing.{lines_of, unassigned, transfers_of, spines_of, Shares};
+ghost use Rattle.spinesets.specs.Inner.{unassigned};
+ghost use Rattle.spinesets.specs.Sharing.{lines_of, transfers_of, spines_of, Shares};
 
 use crate::assigned::Assigned;
 use failure::Failure;
@@ -43,8 +44,8 @@ fn all_unassigned(heap: Global, transfers: &[Transfer]) -> Result<Vec<Assigned>,
         .collect(heap)
 }
 
-// Gives each transfer the spine that is the colour of its line. The lines are read by number: of transfers written
-// through a `zip` nothing would be known.
+// Gives each transfer the spine that is the colour of its line. The lines are read by number: a loop over a `zip` would leave
+// it unproved what was written to the transfers.
 #[tactic(auto, using(crate::proofs::Steps::assigning))]
 fn assign(assigned: &mut [Assigned], lines: &[Line])
     requires { length assigned.old ≡ length lines.now }
