@@ -1,7 +1,10 @@
--- The law over histories, call by call.
+-- The law of a history, call by call.
 mod Pushing
-mod Replaying
+mod Stopping
 mod Stepping
+mod Tickets
+mod Writing
+mod ReplayLemmas
 mod Small
 mod Refuting
 mod Admitting

@@ -1,7 +1,7 @@
 -- Calls with their answers, and images, of which histories are written out.
 use Rattle.std.specs.Prelude.{ℕ, List, [], ◌∷◌, ◌++◌, Ok}
 use Rattle.image.specs.Meaning.{JobImage, job_image}
-use Rattle.audit.specs.History.{Asked, fit, book, cancel, need, issue, seat, header, reopen, Told, fit_answer, book_answer, cancel_answer, need_answer, issue_answer, seat_answer, header_answer, reopen_answer}
+use Rattle.audit.specs.History.{Asked, fit, book, cancel, need, issue, seat, header, reopen, Told, fit_answer, book_answer, cancel_answer, need_answer, issue_answer, seat_answer, header_answer, reopen_answer, History}
 
 -- a fit that is accepted
 abbrev pub fitted_to : ℕ → ℕ → ℕ → Asked × Told
@@ -35,15 +35,19 @@ seated_at k round spine = (seat k, seat_answer (Ok (round, spine)))
 abbrev pub headed_by : ℕ → ℕ × ℕ × ℕ → Asked × Told
 headed_by k h = (header k, header_answer (Ok h))
 
+-- a transfer is booked, and issued twice
+abbrev pub issued_two_times : History
+issued_two_times = booked_as 0 0 1 ∷ issued ∷ reopened ∷ issued ∷ []
+
 -- ---- images
 
 -- an image without a byte
 abbrev pub no_bytes : JobImage
 no_bytes = job_image [] [] []
 
--- the head of an image for one line of one node and one round; the first record is that of cell 1
-abbrev pub head_bytes : List ℕ
-head_bytes = 0x52 ∷ 0x42 ∷ 0x4B ∷ 0x31 ∷ 1 ∷ 1 ∷ 1 ∷ 0 ∷ 1 ∷ 0 ∷ 0 ∷ 0 ∷ 0 ∷ 0 ∷ 0 ∷ 0 ∷ []
+-- the head of an image for one line of one node and R rounds; the first record is that of cell 1
+abbrev pub head_bytes : ℕ → List ℕ
+head_bytes R = 0x52 ∷ 0x42 ∷ 0x4B ∷ 0x31 ∷ 1 ∷ 1 ∷ R ∷ 0 ∷ 1 ∷ 0 ∷ 0 ∷ 0 ∷ 0 ∷ 0 ∷ 0 ∷ 0 ∷ []
 
 -- a transfer from node 0 to node 0 with an empty label, and the index of the next record's cell
 abbrev pub transfer_bytes : ℕ → List ℕ
@@ -51,12 +55,12 @@ transfer_bytes next = 1 ∷ 0 ∷ next ∷ 0 ∷ 0 ∷ 0 ∷ 0 ∷ 0 ∷ 0 ∷ 0
 
 -- an image of one such transfer
 abbrev pub one_transfer : JobImage
-one_transfer = job_image (head_bytes ++ transfer_bytes 0) [] []
+one_transfer = job_image (head_bytes 1 ++ transfer_bytes 0) [] []
 
--- an image of two
-abbrev pub two_transfers : JobImage
-two_transfers = job_image (head_bytes ++ (transfer_bytes 2 ++ transfer_bytes 0)) [] []
+-- an image of two, for R rounds
+abbrev pub two_transfers : ℕ → JobImage
+two_transfers R = job_image (head_bytes R ++ (transfer_bytes 2 ++ transfer_bytes 0)) [] []
 
 -- an image of one, after which a cell is named that is not there
 abbrev pub broken_chain : JobImage
-broken_chain = job_image (head_bytes ++ transfer_bytes 9) [] []
+broken_chain = job_image (head_bytes 1 ++ transfer_bytes 9) [] []

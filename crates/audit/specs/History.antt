@@ -1,10 +1,11 @@
 -- A history: calls of a book with their answers, in order; and what is read off one.
-use Rattle.std.specs.Prelude.{ℕ, ◌+◌, Bool, true, false, not, is_some, List, [], ◌∷◌, ◌++◌, Some, None, Ok, Option, Result}
+use Rattle.std.specs.Prelude.{ℕ, ◌+◌, Bool, true, false, not, is_some, List, [], ◌∷◌, ◌++◌, length, Some, None, Ok, Option, Result}
 use Rattle.crossbar.specs.Refusals.{Refusal}
 use Rattle.ports.specs.declared.transfer.Transfer.{Transfer}
 use Rattle.image.specs.Faults.{Fault}
 use Rattle.image.specs.Meaning.{JobImage}
 use Rattle.image.specs.Settled.{transfers_read}
+use Rattle.lines.specs.Arrangers.{grown}
 use Rattle.bookings.specs.Model.{Model, new_book, cancelled}
 use Rattle.bookings.specs.Loading.{numbered}
 
@@ -81,6 +82,20 @@ book_from b (x ∷ h) = book_from (altered b x.0 x.1) h
 -- the sizes, the rounds, how many tickets have been given, and the live transfers under their tickets
 abbrev pub read_book : History → Model
 read_book h = book_from new_book h
+
+-- a meter of the book b after a call: an issue grows it by the number of live transfers, up to the number at which it stops
+abbrev pub meter_after_call : Model → ℕ → Asked → Told → ℕ
+meter_after_call b k issue issue_answer = grown k (length b.live)
+meter_after_call b k _ _ = k
+
+-- a meter after some calls, from a book and the meter before them
+abbrev pub meter_from : Model → ℕ → History → ℕ
+meter_from b k [] = k
+meter_from b k (x ∷ h) = meter_from (altered b x.0 x.1) (meter_after_call b k x.0 x.1) h
+
+-- what a meter shows after the calls, where it showed k on the new book
+abbrev pub read_meter : ℕ → History → ℕ
+read_meter k h = meter_from new_book k h
 
 -- the calls since the issue, with one call more: none where there is no issue, or the book has been reopened
 abbrev pub since_after : Option History → Asked → Told → Option History

@@ -1,7 +1,9 @@
-// What is printed of a call, and of an answer.
+// What is printed of a call, of an answer, and of the meters.
 use crate::images::image_name;
-use audit::call::{Answer, Call};
+use audit::{Answer, Book, Call};
+use cabinet::kind::Cabinet;
 use crossbar::digits::Hex;
+use lines::arranger::Arranger;
 use ports::sizes::Sizes;
 use ports::transfer::Transfer;
 use std::io;
@@ -11,8 +13,8 @@ fn print_load(rt: &HostRuntime, name: &str, length: usize) -> io::Result<()> {
     print!(rt; "load {name} with {length} bytes of text")
 }
 
-// Prints a call and what it is handed, with no end of the line.
-pub(crate) fn print_call(rt: &HostRuntime, call: Call<'_>) -> io::Result<()> {
+// Prints a call and what it is handed, a sheet with the length of the buffer, with no end of the line.
+pub(crate) fn print_call(rt: &HostRuntime, call: Call<'_>, room: usize) -> io::Result<()> {
     match call {
         Call::Fit(Sizes { m, n }, rounds) => print!(rt; "fit m {m} n {n} R {rounds}"),
         Call::Book(Transfer { sender, receiver }) => print!(rt; "book {sender}->{receiver}"),
@@ -22,7 +24,7 @@ pub(crate) fn print_call(rt: &HostRuntime, call: Call<'_>) -> io::Result<()> {
         Call::Issue => print!(rt; "issue"),
         Call::Seat(ticket) => print!(rt; "seat {ticket}"),
         Call::Header(ticket) => print!(rt; "header {ticket}"),
-        Call::Sheet(round, room) => print!(rt; "sheet {round} in {room} bytes"),
+        Call::Sheet(round) => print!(rt; "sheet {round} in {room} bytes"),
         Call::Reopen => print!(rt; "reopen"),
     }
 }
@@ -40,7 +42,7 @@ fn print_sheet(rt: &HostRuntime, sheet: &[u8]) -> io::Result<()> {
 }
 
 // Prints an answer to the end of the line, and the lines of a sheet below it.
-pub(crate) fn print_answer(rt: &HostRuntime, answer: &Answer) -> io::Result<()> {
+pub(crate) fn print_answer(rt: &HostRuntime, answer: &Answer<Vec<u8>>) -> io::Result<()> {
     match answer {
         Answer::Fit(Ok(())) | Answer::Issue | Answer::Reopen => println!(rt; ": done"),
         Answer::Fit(Err(refusal)) => println!(rt; ": {refusal}"),
@@ -58,4 +60,22 @@ pub(crate) fn print_answer(rt: &HostRuntime, answer: &Answer) -> io::Result<()> 
         Answer::Sheet(Err(refusal)) => println!(rt; ": {refusal}"),
         Answer::NotPermitted => println!(rt; ": not permitted"),
     }
+}
+
+// Prints what the meters of a book show.
+pub(crate) fn print_meters<K: Cabinet, A: Arranger, B: Arranger>(
+    rt: &HostRuntime,
+    book: &Book<K, A, B>,
+) -> io::Result<()> {
+    let (rounds, spines) = match book {
+        Book::Draft(draft) => (
+            draft.round_arranger().meter(),
+            draft.spine_arranger().meter(),
+        ),
+        Book::Timetable(timetable) => (
+            timetable.round_arranger().meter(),
+            timetable.spine_arranger().meter(),
+        ),
+    };
+    println!(rt; "meters: round arranger {rounds}, spine arranger {spines}")
 }
