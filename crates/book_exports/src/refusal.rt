@@ -35,7 +35,7 @@ impl From<BookRefusal> for TurnRefusal {
 }
 
 impl TurnRefusal {
-    // The number that the documents give the refusal.
+    // The number that docs/REFUSALS.md gives the refusal.
     fn number(self) -> u8
         ensures { result ≡ (turn_refusal self).number }
     {

@@ -23,7 +23,7 @@ pub enum FitRefusal {
 }
 
 impl FitRefusal {
-    // The number that the documents give the refusal.
+    // The number that docs/REFUSALS.md gives the refusal.
     pub fn number(self) -> u8
         ensures { result ≡ (fit_refusal self).number }
     {
@@ -55,7 +55,7 @@ pub enum BookRefusal {
 }
 
 impl BookRefusal {
-    // The number that the documents give the refusal.
+    // The number that docs/REFUSALS.md gives the refusal.
     pub fn number(self) -> u8
         ensures { result ≡ (booking_refusal self).number }
     {
@@ -95,7 +95,7 @@ pub enum LoadRefusal {
 }
 
 impl LoadRefusal {
-    // The number that the documents give the refusal.
+    // The number that docs/REFUSALS.md gives the refusal.
     pub fn number(self) -> u8
         ensures { result ≡ (load_fault self).refusal.number }
     {
@@ -156,7 +156,7 @@ pub enum TicketRefusal {
 }
 
 impl TicketRefusal {
-    // The number that the documents give the refusal.
+    // The number that docs/REFUSALS.md gives the refusal.
     pub fn number(self) -> u8
         ensures { result ≡ (ticket_refusal self).number }
     {

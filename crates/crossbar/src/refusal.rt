@@ -27,7 +27,7 @@ pub enum RouteRefusal {
 }
 
 impl RouteRefusal {
-    // The number that the documents give the refusal. Cases with values have no discriminant to read.
+    // The number that docs/REFUSALS.md gives the refusal. Cases with values have no discriminant to read.
     pub fn number(self) -> u8
         ensures { result ≡ (refusal self).number }
     {

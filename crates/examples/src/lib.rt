@@ -1,4 +1,4 @@
-// The worked examples of the documents, settled against the definitions.
+// The worked examples of docs/ROUTES.md and docs/ARRANGERS.md, settled against the definitions.
 #![tactic(auto)]
 
 ghost use Rattle.examples.specs.Worked.{Worked};

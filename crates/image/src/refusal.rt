@@ -52,7 +52,7 @@ pub enum ImageRefusal {
 }
 
 impl ImageRefusal {
-    // The number that the documents give the refusal.
+    // The number that docs/REFUSALS.md gives the refusal.
     pub fn number(self) -> u8
         ensures { result ≡ (image_fault self).refusal.number }
     {

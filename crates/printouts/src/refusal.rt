@@ -22,7 +22,7 @@ pub(crate) enum PlanRefusal {
 }
 
 impl PlanRefusal {
-    // The number that the documents give the refusal.
+    // The number that docs/REFUSALS.md gives the refusal.
     pub(crate) fn number(self) -> u8
         ensures { result ≡ (plan_fault self).refusal.number }
     {

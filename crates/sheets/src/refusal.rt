@@ -12,7 +12,7 @@ pub enum SheetRefusal {
 }
 
 impl SheetRefusal {
-    // The number that the documents give the refusal.
+    // The number that docs/REFUSALS.md gives the refusal.
     pub fn number(self) -> u8
         ensures { result ≡ (sheet_refusal self).number }
     {
