@@ -1,6 +1,6 @@
--- Counts with one bit set are powers of two.
-use Rattle.std.specs.Prelude.{◌≡◌, ℕ, zero, suc, ◌+◌, ◌/◌, ◌%◌, ◌^◌, ◌<◌, ◌≤◌, true, ◌≢◌, ◌==◌, nat_le, refl}
-use Rattle.std.proofs.Common.{ap, ◌∙◌, ⊎_elim, arith, pow_mono}
+-- Counts with one bit set are powers of two; and what powers of two and the room for splits give in numbers.
+use Rattle.std.specs.Prelude.{◌≡◌, ℕ, zero, suc, ◌+◌, ◌-◌, ◌*◌, ◌/◌, ◌%◌, ◌^◌, ◌<◌, ◌≤◌, true, ◌≢◌, ◌==◌, nat_le, refl}
+use Rattle.std.proofs.Common.{sym, ap, ◌∙◌, ⊎_elim, mul-add, mul-le-mul_left, mul-le-mul_right, arith, add-one, pow_mono}
 use Rattle.std.proofs.Math.Nat.{two-pow-succ}
 use Rattle.std.specs.Int.Count.{ones, ones_in, ones_step, count_trailing_zeros, under}
 use Rattle.std.proofs.lemmas.Bool.{cases_eq, cases_lt, and_parts, eqb-true, leb-true}
@@ -56,3 +56,34 @@ served_within c h =
       ⊎_elim (λ (z : c ≡ 0). absurd (let o : ones c ≡ 0 = ap ones z ∙ none in omega (arith, eqb-true (ones c) 1 p.0))) (λ (z : c ≢ 0). omega arith) (cases_eq c 0),
       leb-true c 64 p.1,
     )
+
+-- room for two copies of n lines for each of the splits that are left
+pub room_low : (n m s r : ℕ) → s + 1 ≤ r → 2 * n * r ≤ m → n + n ≤ m
+room_low n m s r l h =
+    let a : 2 * n * (s + 1) ≤ 2 * n * r = mul-le-mul_left (2 * n) l in
+    omega (arith, mul-add (2 * n) s 1)
+
+pub room_rest : (n k m s r : ℕ) → s + 1 ≡ r → k ≤ n → 2 * n * r ≤ m → 2 * k * s + n + n ≤ m
+room_rest n k m s r e l h =
+    let a : 2 * k * s ≤ 2 * n * s = mul-le-mul_right s (let q : 2 * k ≤ 2 * n = omega arith in q) in
+    let b : 2 * n * r ≡ 2 * n * s + 2 * n * 1 = ap (λ z. 2 * n * z) (sym e) ∙ mul-add (2 * n) s 1 in
+    omega arith
+
+pub next_power : (s r : ℕ) → s + 1 ≡ r → 2 ^ r ≡ 2 ^ s + 2 ^ s
+next_power s r e = ap (λ k. 2 ^ k) (sym e ∙ add-one s) ∙ two-pow-succ s
+
+pub half_power : (c s : ℕ) → 0 < s → c ≡ 2 ^ s → c / 2 ≡ 2 ^ (s - 1)
+half_power c s l e = omega (arith, next_power (s - 1) s (omega arith))
+
+-- a count of several colours can be split
+pub several : (c s : ℕ) → c ≡ 2 ^ s → c ≢ 1 → 0 < s
+several c s e ne = ⊎_elim (λ (z : s ≡ 0). absurd (ne (e ∙ ap (λ k. 2 ^ k) z))) (λ (z : s ≢ 0). omega arith) (cases_eq s 0)
+
+pub same_power : (s z r : ℕ) → s + 1 ≡ r → z + 1 ≡ r → 2 ^ z ≡ 2 ^ s
+same_power s z r a b = ap (λ k. 2 ^ k) (let e : z ≡ s = omega arith in e)
+
+-- room for two copies of 1,024 lines at each of six splits
+pub room_six : (n s : ℕ) → n ≤ 1024 → s ≤ 6 → 2 * n * s ≤ 12288
+room_six n s a b =
+    let p : 2 * n * s ≤ 2 * n * 6 = mul-le-mul_left (2 * n) b in
+    omega arith
