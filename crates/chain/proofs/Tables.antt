@@ -4,7 +4,7 @@ use Rattle.std.proofs.lemmas.Bool.{cases_eq}
 use Rattle.lines.specs.declared.line.Side.{Side}
 use Rattle.lines.specs.declared.line.Side.TheVariants.{Left, Right}
 use Rattle.chain.specs.Exchanges.{Ends, Colours, Free, Apart, Painted, Changed, Agrees}
-use Rattle.chain.proofs.Paths.{none_some, some_same}
+use Rattle.chain.proofs.Paths.{none_some, none_or_some, some_same}
 
 pub agrees_apart : (e : Ends) (c : Colours) (t : Side → ℕ → ℕ → Option ℕ) → Agrees e c t → Apart e c
 agrees_apart e c t w s i j a ci cj ee =
@@ -71,6 +71,11 @@ module _ (e : Ends) (c d : Colours) (t u : Side → ℕ → ℕ → Option ℕ) 
         (either v (e s k) x a);
   }
 
--- where the table has no line the colour is free
+-- a colour that is free at an end is spare in the table there: the table has no line with it
+pub free_spare : (e : Ends) (c : Colours) (t : Side → ℕ → ℕ → Option ℕ) → Agrees e c t → (s : Side) (v b : ℕ) → v < 512 → b < 64 → Free e c s v b → t s v b ≡ None
+free_spare e c t w s v b lv lb free =
+    ⊎_elim (λ (z : t s v b ≡ None). z) (λ q. let was = w.line s v b q.0 lv lb q.1 in absurd (free q.0 was.0 was.1)) (none_or_some (t s v b))
+
+-- and where the table has no line the colour is free
 pub spare_free : (e : Ends) (c : Colours) (t : Side → ℕ → ℕ → Option ℕ) → Agrees e c t → (s : Side) (v b : ℕ) → t s v b ≡ None → Free e c s v b
 spare_free e c t w s v b spare k ek ck = none_some (t s v b) k spare (ap (λ x. t s x b) (sym ek) ∙ w.slot s k b ck)
