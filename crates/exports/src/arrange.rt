@@ -39,6 +39,7 @@ fn refused(refusal: ArrangeRefusal) -> BytesError
 }
 
 // Arranges the lines of the bytes `times` times over, and puts their colours into the bytes.
+#[tactic(auto, using(crate::proofs::Outcomes::outcome))]
 pub fn arrange_bytes<A: Arranger>(
     arranger: &mut A,
     heap: Global,
@@ -47,6 +48,7 @@ pub fn arrange_bytes<A: Arranger>(
     times: u32,
 ) -> Result<(), BytesError>
     ensures bytes { Rewrites result times (A.served c) c bytes.old bytes.new }
+    ensures outcome { Outcome times (A.served c) c bytes.old bytes.new (code_of result) }
     ensures meter { A.shows arranger.new ≡ (if is_ok result
         then grown (A.shows arranger.old) (times * length (lines_of bytes.old))
         else A.shows arranger.old) }

@@ -18,7 +18,7 @@ pub enum BytesRefusal {
 pub type BytesError = Failure<BytesRefusal>;
 
 // What C is told: 0 where the lines are arranged, the number of the arranger's refusal, or 255.
-pub(crate) fn code(arranged: Result<(), BytesError>) -> u8
+pub fn code(arranged: Result<(), BytesError>) -> u8
     ensures { result ≡ code_of arranged }
 {
     match arranged {
